@@ -1,0 +1,4 @@
+pub mod Digits
+pub mod Calendar
+pub mod Plant
+pub mod Causes

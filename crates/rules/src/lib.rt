@@ -1,0 +1,67 @@
+// What the schedule unit's answers are made of. specs/ says what each one means, rule by rule of document 01.
+
+// Why a call is refused: a case for each number of 01's table, in its order.
+pub enum Cause {
+    PlantId,
+    Setting,
+    StoreLength,
+    Unsound,
+    ClockUnset,
+    Range,
+    Name,
+    OtherPlant,
+    Form,
+    Date,
+    Rate,
+    Checksum,
+    RecordPlant,
+    Full,
+    Buffer,
+    ErrorFile,
+}
+
+// The answer to a call that changes something: tick, clock lost, file taken, failure reported.
+pub enum Answer {
+    Accepted,
+    Refused(Cause),
+}
+
+// The ceiling of a slot: its rate, in percent of C, and the percent of the inverter's capacity.
+pub enum Ceiling {
+    Rated { rate: u8, percent: u8 },
+    NoRate,
+    Refused(Cause),
+}
+
+// What is due: the update schedule, the fixed schedule of a flag, or nothing.
+pub enum Due {
+    Update,
+    Fixed(u8),
+    Nothing,
+    Refused(Cause),
+}
+
+// The command, in parts: 6,000 × N of them are 100%.
+pub enum Command {
+    Parts(u32),
+    Refused(Cause),
+}
+
+pub enum FreeBlocks {
+    Blocks(u32),
+    Refused(Cause),
+}
+
+// The kind of schedule whose request failed.
+pub enum Kind {
+    Update,
+    Fixed,
+}
+
+// The format of a file: the yearly, the monthly and the update schedule, and the ID registration.
+pub enum Format {
+    F201,
+    F202,
+    F203,
+    F301,
+}
