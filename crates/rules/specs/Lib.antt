@@ -1,4 +1,14 @@
 pub mod Digits
 pub mod Calendar
 pub mod Plant
+pub mod Name
+pub mod Body
+pub mod File
+pub mod Store
+pub mod Machine
 pub mod Causes
+pub mod Writer
+pub mod ErrorFile
+pub mod Request
+pub mod Lister
+pub mod Examples
