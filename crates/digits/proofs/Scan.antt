@@ -1,0 +1,106 @@
+-- Laws of a loop that goes through a list by an index: what the rest from i on is, at i + 1 and at the end.
+use Prim.Native.Nat.{ℕ, zero, suc, _+_, _≤_, _<_, _-_, _*_, _^_}
+use mathlib.Core.Path.{_≡_, _∙_, refl, sym, ap}
+use mathlib.Core.Bool.{Bool, true, false, _&&_, and-assoc, and-true}
+use mathlib.Core.List.{List, [], _∷_}
+use native.Mathlib.Nat.{pow-suc, pow-le-pow-right, lt-of-lt-of-le}
+use native.Mathlib.Numerals.{add-one}
+use native.Mathlib.Omega.{arith}
+use borrow.Author.Tests.{le-leb, lt-leb}
+use lib.Dec.{leb, eqb, lit<}
+use lib.ListN.{length, getD, drop, take, drop-of-length-le, length-drop}
+use lib.Seq.{drop-cons, take-all}
+use Rattle.rules.specs.Digits.{allAtMost, allAscii, sameBytes, valueFrom}
+use Rattle.rules.specs.File.{sum}
+
+-- the rest from i on is the element at i and the rest from i + 1 on
+pub at-next : (s : List ℕ) (i : ℕ) → i < length s → drop i s ≡ getD s i 0 ∷ drop (i + 1) s
+at-next s i h = rw add-one (drop-cons s i 0 h)
+
+-- `&s[a..]` is the rest from a on
+pub part-rest : (s : List ℕ) (a : ℕ) → take (length s - a) (drop a s) ≡ drop a s
+part-rest s a = take-all (length s - a) (drop a s) (simp length-drop (omega arith))
+
+-- a flag b for what was passed, one more test t, and the answer for the rest
+and-step : (b t rest : Bool) → (b && (t && rest)) ≡ ((b && t) && rest)
+and-step b t rest = sym (and-assoc b t rest)
+
+module _ (s : List ℕ) (i : ℕ) (b : Bool) where
+  pub at-most-step : (m : ℕ) → i < length s → (b && allAtMost m (drop i s)) ≡ ((b && leb (getD s i 0) m) && allAtMost m (drop (i + 1) s))
+  unfolding allAtMost
+  at-most-step m h = rw (at-next s i h) (and-step b (leb (getD s i 0) m) (allAtMost m (drop (i + 1) s)))
+
+  pub at-most-end : (m : ℕ) → length s ≤ i → (b && allAtMost m (drop i s)) ≡ b
+  unfolding allAtMost
+  at-most-end m h = rw drop-of-length-le (and-true b)
+
+  pub ascii-step : i < length s
+      → (b && allAscii (drop i s)) ≡ ((b && (leb 48 (getD s i 0) && leb (getD s i 0) 57)) && allAscii (drop (i + 1) s))
+  unfolding allAscii
+  ascii-step h = rw (at-next s i h) (and-step b (leb 48 (getD s i 0) && leb (getD s i 0) 57) (allAscii (drop (i + 1) s)))
+
+  pub ascii-end : length s ≤ i → (b && allAscii (drop i s)) ≡ b
+  unfolding allAscii
+  ascii-end h = rw drop-of-length-le (and-true b)
+
+  pub same-step : (t : List ℕ) → i < length s → i < length t
+      → (b && sameBytes (drop i s) (drop i t)) ≡ ((b && eqb (getD s i 0) (getD t i 0)) && sameBytes (drop (i + 1) s) (drop (i + 1) t))
+  unfolding sameBytes
+  same-step t h k =
+      rw (at-next s i h, at-next t i k) (and-step b (eqb (getD s i 0) (getD t i 0)) (sameBytes (drop (i + 1) s) (drop (i + 1) t)))
+
+  pub same-end : (t : List ℕ) → length s ≤ i → length t ≤ i → (b && sameBytes (drop i s) (drop i t)) ≡ b
+  unfolding sameBytes
+  same-end t h k = rw (drop-of-length-le s h, drop-of-length-le t k) (and-true b)
+
+-- lists of two lengths are not the same
+pub same-length : (s t : List ℕ) → (length s ≡ length t → ⊥) → sameBytes s t ≡ false
+unfolding sameBytes
+same-length [] [] h = absurd (h refl)
+same-length [] (y ∷ t) h = refl
+same-length (x ∷ s) [] h = refl
+same-length (x ∷ s) (y ∷ t) h = rw (same-length s t (λ e. h (ap suc e))) (go (eqb x y))
+  where
+    go : (b : Bool) → (b && false) ≡ false
+    go true = refl
+    go false = refl
+
+module _ (s : List ℕ) (i acc : ℕ) where
+  pub value-step : i < length s → valueFrom acc (drop i s) ≡ valueFrom (acc * 10 + getD s i 0) (drop (i + 1) s)
+  unfolding valueFrom
+  value-step h = rw (at-next s i h) refl
+
+  pub value-end : length s ≤ i → valueFrom acc (drop i s) ≡ acc
+  unfolding valueFrom
+  value-end h = rw drop-of-length-le refl
+
+-- a digit more, and a byte that is no digit
+module _ (s : List ℕ) (i : ℕ) (h : i < length s) where
+  pub digit-step : getD s i 0 ≤ 9 → allAtMost 9 (drop i s) ≡ allAtMost 9 (drop (i + 1) s)
+  unfolding allAtMost
+  digit-step l = rw (at-next s i h) (rw (le-leb (getD s i 0) 9 l) refl)
+
+  pub digit-stop : 9 < getD s i 0 → allAtMost 9 (drop i s) ≡ false
+  unfolding allAtMost
+  digit-stop l = rw (at-next s i h) (rw (lt-leb (getD s i 0) 9 l) refl)
+
+pub digit-end : (s : List ℕ) (i : ℕ) → length s ≤ i → allAtMost 9 (drop i s) ≡ true
+unfolding allAtMost
+digit-end s i h = rw drop-of-length-le refl
+
+-- a value of i digits, and one digit more
+pub more-digits : (v d i : ℕ) → v < 10 ^ i → d ≤ 9 → v * 10 + d < 10 ^ (i + 1)
+more-digits v d i h l = rw (add-one i, pow-suc 10 i) (omega arith)
+
+-- at most 14 digits fit
+pub fits-digits : (v i : ℕ) → v < 10 ^ i → i ≤ 14 → v < 10 ^ 14
+fits-digits v i h l = lt-of-lt-of-le h (pow-le-pow-right (lit< tt) l)
+
+module _ (s : List ℕ) (i : ℕ) where
+  pub sum-step : i < length s → sum (drop i s) ≡ getD s i 0 + sum (drop (i + 1) s)
+  unfolding sum
+  sum-step h = rw (at-next s i h) refl
+
+  pub sum-end : length s ≤ i → sum (drop i s) ≡ 0
+  unfolding sum
+  sum-end h = rw drop-of-length-le refl

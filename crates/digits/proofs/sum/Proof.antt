@@ -1,0 +1,71 @@
+use Prim.Native.Nat.{_≤_, _<_, _-_, _*_, _+_, _^_}
+use mathlib.Core.Path.{_≡_, _∙_, refl, sym, ap}
+use mathlib.Core.Bool.{_&&_}
+use native.Mathlib.Omega.{arith}
+use denote.Ref.{now}
+use lib.ListN.{length, drop}
+use borrow.Author.Tests.{le-leb, lt-leb}
+use Rattle.rules.specs.File.{sum}
+use Rattle.digits.specs.Decimal.{ratesSum}
+use Rattle.digits.proofs.Scan.{sum-step, sum-end}
+use Rattle.digits.proofs.sum.Statement.{statement}
+use Rattle.digits.proofs.sum.Tie as tie
+use Rattle.digits.proofs.sum.Reads as reads
+use Rattle.digits.proofs.sum.Lts as lts
+
+abbrev Inv-loop : tie.InvT-loop
+Inv-loop s total₀ i₀ total i = (i ≤ length s) × (length s ≤ 99999) × (total ≤ 255 * i) × (sum s ≡ total + sum (drop i s))
+
+abbrev μ-loop : tie.MeasureT-loop
+μ-loop s total₀ i₀ total i = length s - i
+
+returns : tie.Need-returns Inv-loop μ-loop
+unfolding ratesSum
+returns c = rw (lt-leb (length (now (c .before .args .s))) 99999 (c .if1 .taken))
+
+loop-holds : tie.Need-loop-holds Inv-loop μ-loop
+loop-holds c = omega arith
+
+shared-slice-read-total : tie.Need-shared-slice-read-total Inv-loop μ-loop
+shared-slice-read-total c = omega arith
+
+cast-total : tie.Need-cast-total Inv-loop μ-loop
+cast-total c = omega (arith, c .shared-slice-known .given (c .before .before .loop .i))
+
+add-total : tie.Need-add-total Inv-loop μ-loop
+add-total c = omega (arith, c .shared-slice-known .given (c .before .before .loop .i))
+
+add-i : tie.Need-add-i Inv-loop μ-loop
+add-i c = omega arith
+
+loop-less : tie.Need-loop-less Inv-loop μ-loop
+loop-less c = omega arith
+
+loop-again : tie.Need-loop-again Inv-loop μ-loop
+loop-again c =
+    let b = c .shared-slice-known .given (c .before .before .loop .i) in
+    let h = sum-step (now (c .before .before .before .before .args .s)) (c .before .before .loop .i) (c .before .loop-test .taken) in
+    (omega arith, omega arith, omega arith, omega arith)
+
+returns-2 : tie.Need-returns-2 Inv-loop μ-loop
+unfolding ratesSum
+returns-2 c =
+    let s = now (c .before .before .before .args .s) in
+    let h = sum-end s (c .before .loop .i) (c .loop-test .left) in
+    rw (le-leb (length s) 99999 (c .before .loop .inv .1)) (omega arith)
+
+pub sum-spec : {M : Type 1} → statement M
+sum-spec =
+    tie.close
+    (tie.spec
+    Inv-loop
+    μ-loop
+    returns
+    loop-holds
+    shared-slice-read-total
+    cast-total
+    add-total
+    add-i
+    loop-less
+    loop-again
+    returns-2)

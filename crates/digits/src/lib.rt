@@ -1,0 +1,88 @@
+// Bytes as digits: whether they are some, the number that they stand for, sums and comparisons. Scans keep a flag and do not leave early.
+ghost use mathlib.Core.Path.{_≡_};
+ghost use Rattle.rules.specs.Digits.{allAtMost, allAscii, sameBytes};
+ghost use Rattle.digits.specs.Decimal.{decimalOf, ratesSum};
+
+// A number of at most 14 digits, or what is none.
+pub enum Decimal {
+    Number(u64),
+    Broken,
+}
+
+// Whether every byte of `s` is at most `most`.
+pub fn all_at_most(s: &[u8], most: u8) -> bool
+    ensures { λ r. ⌜ r ≡ allAtMost most (now (s .entry)) ⌝ }
+{
+    let mut all = true;
+    let mut i = 0;
+    while i < s.len() {
+        all = all & (s[i] <= most);
+        i += 1;
+    }
+    all
+}
+
+// Whether every byte of `s` is an ASCII digit.
+pub fn all_ascii(s: &[u8]) -> bool
+    ensures { λ r. ⌜ r ≡ allAscii (now (s .entry)) ⌝ }
+{
+    let mut all = true;
+    let mut i = 0;
+    while i < s.len() {
+        all = all & ((48 <= s[i]) & (s[i] <= 57));
+        i += 1;
+    }
+    all
+}
+
+// Whether `a` and `b` are the same bytes.
+pub fn same(a: &[u8], b: &[u8]) -> bool
+    ensures { λ r. ⌜ r ≡ sameBytes (now (a .entry)) (now (b .entry)) ⌝ }
+{
+    if a.len() != b.len() {
+        return false;
+    }
+    let mut all = true;
+    let mut i = 0;
+    while i < a.len() {
+        all = all & (a[i] == b[i]);
+        i += 1;
+    }
+    all
+}
+
+// The number that at most 14 digits stand for, the highest first.
+pub fn number(s: &[u8]) -> Decimal
+    ensures { λ r. ⌜ r ≡ decimalOf (now (s .entry)) ⌝ }
+{
+    if 14 < s.len() {
+        return Decimal::Broken;
+    }
+    let mut value: u64 = 0;
+    let mut i = 0;
+    while i < s.len() {
+        let d = s[i] as u64;
+        if 9 < d {
+            return Decimal::Broken;
+        }
+        value = value * 10 + d;
+        i += 1;
+    }
+    Decimal::Number(value)
+}
+
+// The sum of the bytes of `s`, of which a record has at most 99,999.
+pub fn sum(s: &[u8]) -> u32
+    ensures { λ r. ⌜ r ≡ ratesSum (now (s .entry)) ⌝ }
+{
+    if 99999 < s.len() {
+        return 0;
+    }
+    let mut total: u32 = 0;
+    let mut i = 0;
+    while i < s.len() {
+        total += s[i] as u32;
+        i += 1;
+    }
+    total
+}
