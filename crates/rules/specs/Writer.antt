@@ -13,6 +13,7 @@ use Rattle.rules.specs.Body.{Record, schedule, countOf, mostRates, isSch
 use Rattle.rules.specs.File.{monthBegins, updateDates, checksumOf}
 use Rattle.rules.specs.declared.Cause.{Cause}
 use Rattle.rules.specs.declared.Format.{Format}
+use Rattle.rules.specs.declared.Written.{Written}
 use Rattle.rules.specs.declared.Format.the-variants.{F201, F202, F203, F301}
 
 -- what an output is made of: bytes for the caller's buffer, or the cause of a refusal
@@ -27,6 +28,11 @@ need false c o = refuse c
 -- cause 15: 'output longer than the lent buffer'
 abbrev pub fitting : ℕ → List ℕ → Output
 fitting room b = need (leb (length b) room) Cause.Buffer (bytes b)
+
+-- the answer to the caller
+abbrev pub writtenOf : Output → Written
+writtenOf (refuse c) = Written.Refused c
+writtenOf (bytes b) = Written.Length (length b)
 
 -- what the buffer holds afterwards: 'bytes past its end stay', and on refusal all of them
 abbrev pub bufferAfter : Output → List ℕ → List ℕ

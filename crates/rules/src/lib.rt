@@ -52,6 +52,12 @@ pub enum FreeBlocks {
     Refused(Cause),
 }
 
+// What a call that fills a lent buffer answers: how many bytes it wrote.
+pub enum Written {
+    Length(usize),
+    Refused(Cause),
+}
+
 // The kind of schedule whose request failed.
 pub enum Kind {
     Update,
