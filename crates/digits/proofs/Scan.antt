@@ -21,33 +21,38 @@ at-next s i h = rw add-one (drop-cons s i 0 h)
 pub part-rest : (s : List ℕ) (a : ℕ) → take (length s - a) (drop a s) ≡ drop a s
 part-rest s a = take-all (length s - a) (drop a s) (simp length-drop (omega arith))
 
--- a flag b for what was passed, one more test t, and the answer for the rest
-and-step : (b t rest : Bool) → (b && (t && rest)) ≡ ((b && t) && rest)
-and-step b t rest = sym (and-assoc b t rest)
+-- ---- a test of each byte, for any test: the flag b says that the bytes below i passed
+module _ (test : ℕ → Bool) (all : List ℕ → Bool) (none : all [] ≡ true) (more : (x : ℕ) (xs : List ℕ) → all (x ∷ xs) ≡ (test x && all xs)) where
+  pub all-step : (s : List ℕ) (i : ℕ) (b : Bool) → i < length s → (b && all (drop i s)) ≡ ((b && test (getD s i 0)) && all (drop (i + 1) s))
+  all-step s i b h =
+      rw (at-next s i h, more (getD s i 0) (drop (i + 1) s)) (sym (and-assoc b (test (getD s i 0)) (all (drop (i + 1) s))))
+
+  pub all-end : (s : List ℕ) (i : ℕ) (b : Bool) → length s ≤ i → (b && all (drop i s)) ≡ b
+  all-end s i b h = rw (drop-of-length-le s h, none) (and-true b)
 
 module _ (s : List ℕ) (i : ℕ) (b : Bool) where
   pub at-most-step : (m : ℕ) → i < length s → (b && allAtMost m (drop i s)) ≡ ((b && leb (getD s i 0) m) && allAtMost m (drop (i + 1) s))
   unfolding allAtMost
-  at-most-step m h = rw (at-next s i h) (and-step b (leb (getD s i 0) m) (allAtMost m (drop (i + 1) s)))
+  at-most-step m = all-step (λ x. leb x m) (allAtMost m) refl (λ x xs. refl) s i b
 
   pub at-most-end : (m : ℕ) → length s ≤ i → (b && allAtMost m (drop i s)) ≡ b
   unfolding allAtMost
-  at-most-end m h = rw drop-of-length-le (and-true b)
+  at-most-end m = all-end (λ x. leb x m) (allAtMost m) refl (λ x xs. refl) s i b
 
   pub ascii-step : i < length s
       → (b && allAscii (drop i s)) ≡ ((b && (leb 48 (getD s i 0) && leb (getD s i 0) 57)) && allAscii (drop (i + 1) s))
   unfolding allAscii
-  ascii-step h = rw (at-next s i h) (and-step b (leb 48 (getD s i 0) && leb (getD s i 0) 57) (allAscii (drop (i + 1) s)))
+  ascii-step = all-step (λ x. leb 48 x && leb x 57) allAscii refl (λ x xs. refl) s i b
 
   pub ascii-end : length s ≤ i → (b && allAscii (drop i s)) ≡ b
   unfolding allAscii
-  ascii-end h = rw drop-of-length-le (and-true b)
+  ascii-end = all-end (λ x. leb 48 x && leb x 57) allAscii refl (λ x xs. refl) s i b
 
   pub same-step : (t : List ℕ) → i < length s → i < length t
       → (b && sameBytes (drop i s) (drop i t)) ≡ ((b && eqb (getD s i 0) (getD t i 0)) && sameBytes (drop (i + 1) s) (drop (i + 1) t))
   unfolding sameBytes
   same-step t h k =
-      rw (at-next s i h, at-next t i k) (and-step b (eqb (getD s i 0) (getD t i 0)) (sameBytes (drop (i + 1) s) (drop (i + 1) t)))
+      rw (at-next s i h, at-next t i k) (sym (and-assoc b (eqb (getD s i 0) (getD t i 0)) (sameBytes (drop (i + 1) s) (drop (i + 1) t))))
 
   pub same-end : (t : List ℕ) → length s ≤ i → length t ≤ i → (b && sameBytes (drop i s) (drop i t)) ≡ b
   unfolding sameBytes
