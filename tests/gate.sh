@@ -1,0 +1,2 @@
+# The gate fails where it must.
+exec "$(dirname "$0")/../scripts/try_gate"
