@@ -1,0 +1,5 @@
+pub mod Tests
+pub mod Laws
+pub mod Search
+pub mod Scan
+pub mod DateLaws

@@ -1,0 +1,33 @@
+-- Tests that are computed at every number below a bound, and tests joined by `&&`.
+-- Assumes nothing.
+use Prim.Native.Nat.{ℕ, zero, suc, _<_}
+use mathlib.Core.Path.{_≡_, refl}
+use mathlib.Core.Bool.{Bool, true, false, cond, not, _&&_, false≢true}
+use native.Mathlib.Nat.{not-suc-le-zero}
+use native.Mathlib.Omega.{arith}
+use lib.Dec.{eqb}
+use borrow.Author.Tests.{eqb-true, eqb-false}
+use Rattle.calendar.specs.Cycle.{every}
+
+pub both : (a b : Bool) → (a && b) ≡ true → (a ≡ true) × (b ≡ true)
+both true b e = (refl, e)
+both false b e = absurd (false≢true e)
+
+-- whether two tests agree
+abbrev pub same : Bool → Bool → Bool
+same a b = cond a b (not b)
+
+pub same-true : (a b : Bool) → same a b ≡ true → a ≡ b
+same-true true true e = refl
+same-true true false e = absurd (false≢true e)
+same-true false true e = absurd (false≢true e)
+same-true false false e = refl
+
+pub every-at : (n : ℕ) (f : ℕ → Bool) → every n f ≡ true → (k : ℕ) → k < n → f k ≡ true
+unfolding every
+every-at zero f e k l = absurd (not-suc-le-zero l)
+every-at (suc n) f e k l = let b = both (f n) (every n f) e in go (eqb k n) refl (b .0) (every-at n f (b .1) k)
+  where
+    go : (t : Bool) → eqb k n ≡ t → f n ≡ true → (k < n → f k ≡ true) → f k ≡ true
+    go true h top rest = rw (eqb-true k n h) top
+    go false h top rest = let d = eqb-false k n h in rest (omega arith)

@@ -1,0 +1,4 @@
+-- The laws that this crate's proofs cite.
+pub mod Text
+pub mod Head
+pub mod File

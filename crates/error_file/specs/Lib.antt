@@ -1,0 +1,4 @@
+-- The definitions that this crate's contracts cite.
+pub mod Walk
+pub mod Head
+pub mod Code
