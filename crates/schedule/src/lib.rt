@@ -1,0 +1,1 @@
+// The held months' rates: pool and store together.
