@@ -1,5 +1,5 @@
-use Prim.Native.Nat.{_≤_, _<_, _-_, _*_, _+_, _^_}
-use mathlib.Core.Path.{_≡_, _∙_, refl, sym, ap}
+use Prim.Native.Nat.{_≤_, _-_}
+use mathlib.Core.Path.{_≡_, _∙_, refl, sym}
 use mathlib.Core.Bool.{_&&_}
 use native.Mathlib.Omega.{arith}
 use denote.Ref.{now}
@@ -8,8 +8,6 @@ use Rattle.rules.specs.Digits.{allAscii}
 use Rattle.digits.proofs.Scan.{ascii-step, ascii-end}
 use Rattle.digits.proofs.all_ascii.Statement.{statement}
 use Rattle.digits.proofs.all_ascii.Tie as tie
-use Rattle.digits.proofs.all_ascii.Reads as reads
-use Rattle.digits.proofs.all_ascii.Lts as lts
 
 abbrev Inv-loop : tie.InvT-loop
 Inv-loop s all₀ i₀ all i = (i ≤ length s) × (allAscii s ≡ (all && allAscii (drop i s)))

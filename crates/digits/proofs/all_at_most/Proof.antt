@@ -1,5 +1,5 @@
-use Prim.Native.Nat.{_≤_, _<_, _-_, _*_, _+_, _^_}
-use mathlib.Core.Path.{_≡_, _∙_, refl, sym, ap}
+use Prim.Native.Nat.{_≤_, _-_}
+use mathlib.Core.Path.{_≡_, _∙_, refl, sym}
 use mathlib.Core.Bool.{_&&_}
 use native.Mathlib.Omega.{arith}
 use denote.Ref.{now}
@@ -8,8 +8,6 @@ use Rattle.rules.specs.Digits.{allAtMost}
 use Rattle.digits.proofs.Scan.{at-most-step, at-most-end}
 use Rattle.digits.proofs.all_at_most.Statement.{statement}
 use Rattle.digits.proofs.all_at_most.Tie as tie
-use Rattle.digits.proofs.all_at_most.Reads as reads
-use Rattle.digits.proofs.all_at_most.Lts as lts
 
 abbrev Inv-loop : tie.InvT-loop
 Inv-loop s most all₀ i₀ all i = (i ≤ length s) × (allAtMost most s ≡ (all && allAtMost most (drop i s)))

@@ -1,6 +1,5 @@
-use Prim.Native.Nat.{_≤_, _<_, _-_, _*_, _+_, _^_}
-use mathlib.Core.Path.{_≡_, _∙_, refl, sym, ap}
-use mathlib.Core.Bool.{_&&_}
+use Prim.Native.Nat.{_≤_, _<_, _-_, _^_}
+use mathlib.Core.Path.{_≡_, _∙_, refl}
 use native.Mathlib.Omega.{arith}
 use denote.Ref.{now}
 use lib.ListN.{length, drop}
@@ -10,8 +9,6 @@ use Rattle.digits.specs.Decimal.{decimalOf}
 use Rattle.digits.proofs.Scan.{digit-step, digit-stop, digit-end, value-step, value-end, more-digits, fits-digits}
 use Rattle.digits.proofs.number.Statement.{statement}
 use Rattle.digits.proofs.number.Tie as tie
-use Rattle.digits.proofs.number.Reads as reads
-use Rattle.digits.proofs.number.Lts as lts
 
 abbrev Inv-loop : tie.InvT-loop
 Inv-loop s value₀ i₀ value i = (i ≤ length s) × (length s ≤ 14) × (value < 10 ^ i) × (allAtMost 9 s ≡ allAtMost 9 (drop i s)) × (valueFrom 0 s ≡ valueFrom value (drop i s))

@@ -1,5 +1,5 @@
-use Prim.Native.Nat.{_≤_, _<_, _-_, _*_, _+_, _^_}
-use mathlib.Core.Path.{_≡_, _∙_, refl, sym, ap}
+use Prim.Native.Nat.{_≤_, _-_}
+use mathlib.Core.Path.{_≡_, _∙_, refl, sym}
 use mathlib.Core.Bool.{_&&_}
 use native.Mathlib.Omega.{arith}
 use denote.Ref.{now}
@@ -8,8 +8,6 @@ use Rattle.rules.specs.Digits.{sameBytes}
 use Rattle.digits.proofs.Scan.{same-step, same-end, same-length}
 use Rattle.digits.proofs.same.Statement.{statement}
 use Rattle.digits.proofs.same.Tie as tie
-use Rattle.digits.proofs.same.Reads as reads
-use Rattle.digits.proofs.same.Lts as lts
 
 abbrev Inv-loop : tie.InvT-loop
 Inv-loop a b all₀ i₀ all i = (i ≤ length a) × (length a ≡ length b) × (sameBytes a b ≡ (all && sameBytes (drop i a) (drop i b)))

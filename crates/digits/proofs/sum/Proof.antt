@@ -1,6 +1,5 @@
-use Prim.Native.Nat.{_≤_, _<_, _-_, _*_, _+_, _^_}
-use mathlib.Core.Path.{_≡_, _∙_, refl, sym, ap}
-use mathlib.Core.Bool.{_&&_}
+use Prim.Native.Nat.{_≤_, _-_, _*_, _+_}
+use mathlib.Core.Path.{_≡_}
 use native.Mathlib.Omega.{arith}
 use denote.Ref.{now}
 use lib.ListN.{length, drop}
@@ -10,8 +9,6 @@ use Rattle.digits.specs.Decimal.{ratesSum}
 use Rattle.digits.proofs.Scan.{sum-step, sum-end}
 use Rattle.digits.proofs.sum.Statement.{statement}
 use Rattle.digits.proofs.sum.Tie as tie
-use Rattle.digits.proofs.sum.Reads as reads
-use Rattle.digits.proofs.sum.Lts as lts
 
 abbrev Inv-loop : tie.InvT-loop
 Inv-loop s total₀ i₀ total i = (i ≤ length s) × (length s ≤ 99999) × (total ≤ 255 * i) × (sum s ≡ total + sum (drop i s))
