@@ -1,0 +1,14 @@
+pub mod Booleans
+pub mod Numerals
+pub mod Pieces
+pub mod Record
+pub mod Body
+pub mod Name
+pub mod Reading
+pub mod Refusals
+pub mod Calendar
+pub mod MonthStart
+pub mod Months
+pub mod Written
+pub mod Rewritten
+pub mod Named
