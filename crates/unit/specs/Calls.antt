@@ -1,0 +1,209 @@
+-- What each call of the unit answers and leaves. A refused call leaves unit and store as they were.
+use Prim.Native.Nat.{ℕ, zero, suc, _+_, _-_, _*_}
+use mathlib.Core.Bool.{Bool, true, false, cond}
+use mathlib.Core.List.{List, [], _∷_}
+use mathlib.Core.Option.{Option, none, some}
+use lib.Dec.{leb, ltb}
+use lib.ListN.{length}
+use Rattle.rules.specs.Calendar.{slotOf}
+use Rattle.rules.specs.Plant.{Settings, lastDigit, percent}
+use Rattle.rules.specs.Body.{Record}
+use Rattle.rules.specs.File.{File, Outcome, refuse, file, takeFile, recordsIn, startOf}
+use Rattle.rules.specs.Machine.{raisedFloor, approach, target, failed, dueOf, takeBy}
+use Rattle.rules.specs.Causes.{Reply, refused, numberOf}
+use Rattle.rules.specs.declared.Cause.{Cause}
+use Rattle.rules.specs.declared.Answer.{Answer}
+use Rattle.rules.specs.declared.Ceiling.{Ceiling}
+use Rattle.rules.specs.declared.Command.{Command}
+use Rattle.rules.specs.declared.FreeBlocks.{FreeBlocks}
+use Rattle.rules.specs.declared.Kind.{Kind}
+use Rattle.plant.specs.Plant.{settingsOf}
+use Rattle.pool.specs.Blocks.{releaseOf, freeCount}
+use Rattle.schedule.specs.Stored.{Stored, storedRate, putRun, missing}
+use Rattle.requests.specs.Requests.{requestsOf}
+use Rattle.unit.specs.Values.{clockOf, requestsFrom}
+use Rattle.unit.specs.Rows.{Row, firstOf, lengthRow, unitRow, soundRow, clockRow, tickRow, slotRow, statusRow}
+use Rattle.unit.specs.declared.Unit.{Unit}
+use Rattle.unit.specs.declared.Done.{Done}
+use Rattle.unit.specs.declared.Clock.{Clock}
+use Rattle.unit.specs.declared.Clock.the-variants.{Unset, At}
+
+-- the new unit where no row applies, else the old one with the cause
+abbrev pub doneBy : Option Cause → Unit → Unit → Done
+doneBy none new old = record { unit = new; answer = Answer.Accepted }
+doneBy (some c) new old = record { unit = old; answer = Answer.Refused c }
+
+abbrev pub refusal : Unit → Cause → Done
+refusal u c = record { unit = u; answer = Answer.Refused c }
+
+-- ---- tick
+
+-- the clock at t: floor is raised, and blocks of months below it are given back
+unfoldable pub setClock : ℕ → Unit → Unit
+setClock t u = record {
+  plant = u .plant;
+  pool = releaseOf (u .pool) (raisedFloor (u .floor) t);
+  requests = u .requests;
+  clock = At t;
+  floor = raisedFloor (u .floor) t;
+  command = u .command;
+}
+
+unfoldable pub withCommand : ℕ → Unit → Unit
+withCommand c u = record {
+  plant = u .plant;
+  pool = u .pool;
+  requests = u .requests;
+  clock = u .clock;
+  floor = u .floor;
+  command = c;
+}
+
+-- the second t of a tick: floor first, then the command toward the target of the second's slot
+unfoldable pub second : List ℕ → ℕ → Unit → Unit
+second store t u =
+    let v = setClock t u in
+    withCommand (approach (target (settingsOf (u .plant)) (storedRate (v .pool) store (slotOf t))) (u .command)) v
+
+-- the n seconds after second c
+unfoldable pub seconds : List ℕ → ℕ → ℕ → Unit → Unit
+seconds store zero c u = u
+seconds store (suc n) c u = seconds store n (suc c) (second store (suc c) u)
+
+abbrev pub tickFrom : List ℕ → ℕ → Clock → Unit → Unit
+tickFrom store t Unset u = setClock t u
+tickFrom store t (At c) u = cond (leb t c) (setClock t u) (seconds store (t - c) c u)
+
+unfoldable pub ticked : List ℕ → ℕ → Unit → Unit
+ticked store t u = tickFrom store t (u .clock) u
+
+unfoldable pub tickOf : Unit → List ℕ → ℕ → Done
+tickOf u store t = doneBy (firstOf (lengthRow store ∷ soundRow u store ∷ tickRow t ∷ [])) (ticked store t u) u
+
+-- ---- clock lost
+
+unfoldable pub lost : Unit → Unit
+lost u = record { plant = u .plant; pool = u .pool; requests = u .requests; clock = Unset; floor = u .floor; command = 0 }
+
+unfoldable pub lostOf : Unit → Done
+lostOf u = doneBy (firstOf (unitRow u ∷ [])) (lost u) u
+
+-- ---- file taken
+
+-- the records put in order, each from its start slot on
+unfoldable pub putRecords : ℕ → List Record → Stored → Stored
+putRecords floor [] st = st
+putRecords floor (r ∷ rs) st = putRecords floor rs (putRun floor (startOf r) (r .rates) st)
+
+-- the slots that a file's records cover: the first, and how many
+abbrev pub firstOfRun : List Record → ℕ
+firstOfRun [] = 0
+firstOfRun (r ∷ rs) = startOf r
+
+unfoldable pub runLength : List Record → ℕ
+runLength [] = 0
+runLength (r ∷ rs) = length (r .rates) + runLength rs
+
+-- 14: 'more than 16 months would be held'
+unfoldable pub fullRow : File → Unit → Row
+fullRow f u =
+    let rs = recordsIn (f .body) in
+    record { applies = ltb (freeCount (u .pool)) (missing (u .pool) (u .floor) (firstOfRun rs) (runLength rs)); cause = Cause.Full }
+
+-- 7 to 13 by reading, then 14
+abbrev pub outcomeRow : Outcome → Unit → Row
+outcomeRow (refuse c) u = record { applies = true; cause = c }
+outcomeRow (file f) u = fullRow f u
+
+unfoldable pub withFile : File → List ℕ → Unit → Unit
+withFile f store u = record {
+  plant = u .plant;
+  pool = putRecords (u .floor) (recordsIn (f .body)) (record { pool = u .pool; store = store }) .pool;
+  requests = requestsFrom (takeBy (f .name .format) (f .name) (recordsIn (f .body)) (requestsOf (u .requests)));
+  clock = u .clock;
+  floor = u .floor;
+  command = u .command;
+}
+
+abbrev pub taken : Outcome → List ℕ → Unit → Unit
+taken (refuse c) store u = u
+taken (file f) store u = withFile f store u
+
+abbrev pub takeRows : Unit → List ℕ → List ℕ → List ℕ → List Row
+takeRows u store name body =
+    lengthRow store ∷ soundRow u store ∷ clockRow u ∷ outcomeRow (takeFile (u .plant .id) name body) u ∷ []
+
+unfoldable pub takeOf : Unit → List ℕ → List ℕ → List ℕ → Done
+takeOf u store name body =
+    doneBy (firstOf (takeRows u store name body)) (taken (takeFile (u .plant .id) name body) store u) u
+
+-- the store afterwards
+abbrev pub storeWith : Outcome → List ℕ → Unit → List ℕ
+storeWith (refuse c) store u = store
+storeWith (file f) store u = putRecords (u .floor) (recordsIn (f .body)) (record { pool = u .pool; store = store }) .store
+
+abbrev pub storeBy : Option Cause → List ℕ → List ℕ → List ℕ
+storeBy none new old = new
+storeBy (some c) new old = old
+
+unfoldable pub storeAfterTake : Unit → List ℕ → List ℕ → List ℕ → List ℕ
+storeAfterTake u store name body =
+    storeBy (firstOf (takeRows u store name body)) (storeWith (takeFile (u .plant .id) name body) store u) store
+
+-- ---- failure reported
+
+abbrev pub clockTime : Clock → ℕ
+clockTime Unset = 0
+clockTime (At t) = t
+
+unfoldable pub withFailure : Kind → ℕ → Unit → Unit
+withFailure kind status u = record {
+  plant = u .plant;
+  pool = u .pool;
+  requests = requestsFrom (failed (lastDigit (u .plant .id)) kind (clockTime (u .clock)) status (requestsOf (u .requests)));
+  clock = u .clock;
+  floor = u .floor;
+  command = u .command;
+}
+
+unfoldable pub failureOf : Unit → Kind → ℕ → Done
+failureOf u kind status = doneBy (firstOf (unitRow u ∷ clockRow u ∷ statusRow status ∷ [])) (withFailure kind status u) u
+
+-- ---- the questions
+
+-- the answer where no row applies, else the cause's number
+abbrev pub replyBy : Option Cause → Reply → Reply
+replyBy none r = r
+replyBy (some c) r = refused (numberOf c)
+
+unfoldable pub dueReply : Unit → Reply
+dueReply u =
+    replyBy (firstOf (unitRow u ∷ clockRow u ∷ []))
+    (dueOf (lastDigit (u .plant .id)) (clockTime (u .clock)) (requestsOf (u .requests)))
+
+abbrev pub ceilingAnswer : Settings → Option ℕ → Ceiling
+ceilingAnswer s none = Ceiling.NoRate
+ceilingAnswer s (some r) = Ceiling.Rated r (percent s r)
+
+abbrev pub ceilingBy : Option Cause → Ceiling → Ceiling
+ceilingBy none a = a
+ceilingBy (some c) a = Ceiling.Refused c
+
+unfoldable pub ceilingOf : Unit → List ℕ → ℕ → Ceiling
+ceilingOf u store s =
+    ceilingBy (firstOf (lengthRow store ∷ soundRow u store ∷ clockRow u ∷ slotRow s ∷ []))
+    (ceilingAnswer (settingsOf (u .plant)) (storedRate (u .pool) store s))
+
+abbrev pub commandBy : Option Cause → ℕ → Command
+commandBy none n = Command.Parts n
+commandBy (some c) n = Command.Refused c
+
+unfoldable pub commandOf : Unit → Command
+commandOf u = commandBy (firstOf (unitRow u ∷ [])) (u .command)
+
+abbrev pub freeBy : Option Cause → ℕ → FreeBlocks
+freeBy none n = FreeBlocks.Blocks n
+freeBy (some c) n = FreeBlocks.Refused c
+
+unfoldable pub freeOf : Unit → FreeBlocks
+freeOf u = freeBy (firstOf (unitRow u ∷ [])) (freeCount (u .pool))

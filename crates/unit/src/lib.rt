@@ -1,0 +1,238 @@
+// The schedule unit (01, The store, The plain machine): its values, and its calls.
+ghost use mathlib.Core.Path.{_≡_};
+ghost use Rattle.rules.specs.Causes.{ofDue};
+ghost use Rattle.rules.specs.Store.{soundClock};
+ghost use Rattle.plant.specs.Plant.{settings};
+ghost use Rattle.unit.specs.Values.{clockOf, isSound, freshUnit, installedUnit};
+ghost use Rattle.unit.specs.Calls.{refusal, lostOf, failureOf, dueReply, commandOf, freeOf};
+use plant::Plant;
+use pool::Pool;
+use requests::Requests;
+use rules::Answer;
+use rules::Cause;
+use rules::Command;
+use rules::Due;
+use rules::FreeBlocks;
+use rules::Kind;
+
+// The clock: unset, or at a second.
+pub enum Clock {
+    Unset,
+    At(u32),
+}
+
+// A unit. floor is the floor month; command is in parts, of which 6,000 × N are 100%.
+pub struct Unit {
+    pub plant: Plant,
+    pub pool: Pool,
+    pub requests: Requests,
+    pub clock: Clock,
+    pub floor: u16,
+    pub command: u32,
+}
+
+// A unit after a call, and the call's answer.
+pub struct Done {
+    pub unit: Unit,
+    pub answer: Answer,
+}
+
+// A unit after it was asked what is due, and the answer.
+pub struct DueDone {
+    pub unit: Unit,
+    pub answer: Due,
+}
+
+// The answer to install, and the unit where it is accepted; else one that is not sound.
+pub struct Installed {
+    pub answer: Answer,
+    pub unit: Unit,
+}
+
+// 'floor is at most 1199'.
+const MONTHS: u16 = 1200;
+
+// T, 3,155,760,000.
+const END_OF_TIME: u32 = 36525 * 86400;
+
+// 'command at most 6,000 × N'.
+const FULL_COMMAND: u64 = 6000;
+
+// A pool with sixteen free blocks.
+const ALL_FREE: u16 = 65535;
+
+impl Clock {
+    fn sound(self) -> bool
+        ensures { λ r. ⌜ r ≡ soundClock (clockOf self) ⌝ }
+    {
+        match self {
+            Clock::Unset => true,
+            Clock::At(t) => t < END_OF_TIME,
+        }
+    }
+}
+
+// The fresh unit of a plant.
+fn fresh(plant: Plant) -> Unit
+    ensures { λ r. ⌜ r ≡ freshUnit plant ⌝ }
+{
+    Unit {
+        plant,
+        pool: Pool {
+            months: [0u16; 16],
+            free: ALL_FREE,
+        },
+        requests: Requests::fresh(),
+        clock: Clock::Unset,
+        floor: 0,
+        command: 0,
+    }
+}
+
+impl Unit {
+    // The lengths that belong to a unit: 16 blocks of 1,488 bytes.
+    pub const BLOCK_COUNT: usize = 16;
+
+    pub const BLOCK_LENGTH: usize = 1488;
+
+    pub const STORE_LENGTH: usize = Unit::BLOCK_COUNT * Unit::BLOCK_LENGTH;
+
+    // The fresh unit of these values, or cause 1 or 2.
+    pub fn install(id: &[u8], mac: &[u8], panel: u64, inverter: u64, minutes: u64) -> Installed
+        ensures { λ r. ⌜ r ≡ installedUnit (now (id .entry)) (now (mac .entry)) (settings panel inverter minutes) ⌝ }
+    {
+        let made = Plant::install(id, mac, panel, inverter, minutes);
+        let answer = made.answer;
+        let plant = made.plant;
+        Installed {
+            answer,
+            unit: fresh(plant),
+        }
+    }
+
+    // Whether the unit is sound in 01's words.
+    pub fn sound(self) -> bool
+        ensures { λ r. ⌜ r ≡ isSound self ⌝ }
+    {
+        let plant = self.plant;
+        let pool = self.pool;
+        let requests = self.requests;
+        let clock = self.clock;
+        plant.valid()
+            & (self.floor < MONTHS)
+            & pool.sound(self.floor)
+            & requests.sound()
+            & clock.sound()
+            & (self.command as u64 <= FULL_COMMAND * plant.minutes as u64)
+    }
+
+    // The unit with a cause, as it was.
+    fn refuse(self, cause: Cause) -> Done
+        ensures { λ r. ⌜ r ≡ refusal self cause ⌝ }
+    {
+        Done {
+            unit: self,
+            answer: Answer::Refused(cause),
+        }
+    }
+
+    // The clock is lost: unset, and the command 0.
+    pub fn clock_lost(self) -> Done
+        ensures { λ r. ⌜ r ≡ lostOf self ⌝ }
+    {
+        if !self.sound() {
+            return self.refuse(Cause::Unsound);
+        }
+        let plant = self.plant;
+        let pool = self.pool;
+        let requests = self.requests;
+        Done {
+            unit: Unit {
+                plant,
+                pool,
+                requests,
+                clock: Clock::Unset,
+                floor: self.floor,
+                command: 0,
+            },
+            answer: Answer::Accepted,
+        }
+    }
+
+    // A request for the update or the fixed schedule failed with that status.
+    pub fn failure(self, kind: Kind, status: u64) -> Done
+        ensures { λ r. ⌜ r ≡ failureOf self kind status ⌝ }
+    {
+        if !self.sound() {
+            return self.refuse(Cause::Unsound);
+        }
+        let clock = self.clock;
+        let Clock::At(t) = clock else {
+            return self.refuse(Cause::ClockUnset);
+        };
+        if !requests::is_status(status) {
+            return self.refuse(Cause::Range);
+        }
+        let plant = self.plant;
+        let pool = self.pool;
+        let old = self.requests;
+        let requests = old.failed(kind, plant.check_digit(), t, status);
+        Done {
+            unit: Unit {
+                plant,
+                pool,
+                requests,
+                clock,
+                floor: self.floor,
+                command: self.command,
+            },
+            answer: Answer::Accepted,
+        }
+    }
+
+    // What is due.
+    pub fn due(self) -> DueDone
+        ensures { λ r. ⌜ (r .unit ≡ self) × (ofDue (r .answer) ≡ dueReply self) ⌝ }
+    {
+        if !self.sound() {
+            return DueDone {
+                unit: self,
+                answer: Due::Refused(Cause::Unsound),
+            };
+        }
+        let clock = self.clock;
+        let Clock::At(t) = clock else {
+            return DueDone {
+                unit: self,
+                answer: Due::Refused(Cause::ClockUnset),
+            };
+        };
+        let plant = self.plant;
+        let requests = self.requests;
+        DueDone {
+            unit: self,
+            answer: requests.due(plant.check_digit(), t),
+        }
+    }
+
+    // The command, in parts.
+    pub fn command(self) -> Command
+        ensures { λ r. ⌜ r ≡ commandOf self ⌝ }
+    {
+        if !self.sound() {
+            return Command::Refused(Cause::Unsound);
+        }
+        Command::Parts(self.command)
+    }
+
+    // How many blocks are free.
+    pub fn free_blocks(self) -> FreeBlocks
+        ensures { λ r. ⌜ r ≡ freeOf self ⌝ }
+    {
+        if !self.sound() {
+            return FreeBlocks::Refused(Cause::Unsound);
+        }
+        let pool = self.pool;
+        FreeBlocks::Blocks(pool.free_count())
+    }
+}
