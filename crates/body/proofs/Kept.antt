@@ -1,0 +1,172 @@
+-- What is kept of an accepted schedule body is what `summaryOf` says of its file.
+-- Assumes nothing.
+use Prim.Native.Nat.{ℕ, zero, suc, _+_, _-_, _*_, _%_, _≤_, _<_}
+use mathlib.Core.Path.{_≡_, _∙_, refl, sym, ap}
+use mathlib.Core.Bool.{Bool, true, false, cond, _&&_, false≢true}
+use mathlib.Core.List.{List, [], _∷_}
+use mathlib.Core.Option.{Option, none, some}
+use native.Mathlib.Nat.{suc-mul, add-zero}
+use native.Mathlib.Omega.{arith}
+use lib.Dec.{leb, eqb, lit<, lit≤}
+use borrow.Author.Tests.{eqb-true}
+use lib.ListN.{length, getD, take, drop, length-drop}
+use lib.Seq.{getD-take, getD-drop}
+use Rattle.rules.specs.Digits.{part, allDigits, value, decimal}
+use Rattle.rules.specs.Calendar.{exists, secondsOf, moment, wholeMinute, halfHour, slotOf, startSlot}
+use Rattle.rules.specs.Body.{Record, countOf, flagDigits, tailDigits, ratesOf, sizeOf, recordShape, recordAt, every, isSchedule}
+use Rattle.rules.specs.File.{wholeMonth, monthsFrom, firstMonth, inTime, updateDates, recordDates, startOf, flagOf, nextAccess}
+use Rattle.rules.specs.Lister.{totalRates}
+use Rattle.rules.specs.declared.Format.{Format}
+use Rattle.rules.specs.declared.Format.the-variants.{F201, F202, F203, F301}
+use Rattle.calendar.specs.Moments.{momentOf}
+use Rattle.calendar.specs.declared.dates.Moment.{Moment}
+use Rattle.calendar.specs.declared.dates.Moment.the-variants.{At, Missing}
+use Rattle.body.specs.Walk.{shaped, recordsFrom, Whole, orZero, accessAt}
+use Rattle.body.specs.Reading.{nameOf, scheduleFile, firstStart, accessOf, summaryOf}
+use Rattle.body.specs.declared.Summary.{Summary}
+use Rattle.body.proofs.Parts.{both, part-to}
+use Rattle.body.proofs.Walk.{count-positive, count-bound, whole, whole-start, records-step}
+use Rattle.body.proofs.Starts.{segment-value, start-full, start-digits, rates-full, next-full, next-digits, start-some, start-is, moment-some, begins-half, MonthFacts, month-facts, or-at, or-missing}
+
+-- ---- numbers of records and rates
+
+pub records-count : (f : Format) (k : ℕ) (s : List ℕ) → length (recordsFrom f k s) ≡ k
+unfolding recordsFrom
+records-count f zero s = refl
+records-count f (suc k) s = ap suc (records-count f k (drop (sizeOf f s) s))
+
+rates-here : (f : Format) (s : List ℕ) → Whole f s → length (recordAt f s .rates) ≡ ratesOf s
+unfolding recordAt
+rates-here f s w = rates-full f s w
+
+-- the bytes of k records are their rates and as many others
+pub rates-total : (f : Format) (k : ℕ) (s : List ℕ) → shaped f k s ≡ true
+    → (length s ≡ k * (53 + tailDigits f) + totalRates (recordsFrom f k s)) × (totalRates (recordsFrom f k s) ≤ k * 99999)
+unfolding shaped recordsFrom totalRates sizeOf
+rates-total f zero s e = (omega (arith, eqb-true (length s) 0 e), omega arith)
+rates-total f (suc k) s e =
+    let b = both (recordShape f s) (shaped f k (drop (sizeOf f s) s)) e in
+    let w = whole f s (b .0) in
+    let t = rates-total f k (drop (sizeOf f s) s) (b .1) in
+    let n = rates-here f s w in
+    let l = length-drop (sizeOf f s) s in
+    let p = suc-mul k (53 + tailDigits f) in
+    let q = suc-mul k 99999 in
+    (omega (arith, w .room), omega (arith, w .few))
+
+-- ---- flag, start and next access
+
+pub flag-is : (s : List ℕ) (n : ℕ) → n ≡ ratesOf s → getD s (53 + n) 0 ≡ flagOf (recordAt F203 s ∷ [])
+unfolding recordAt
+flag-is s n n≡ = rw (n≡, getD-take 1 (drop (53 + ratesOf s) s) 0 0 (lit< tt), getD-drop (53 + ratesOf s) s 0 0, add-zero (53 + ratesOf s)) refl
+
+-- the first record of a body
+first-record : (f : Format) (s : List ℕ)
+    → recordsFrom f (countOf f) s ≡ recordAt f s ∷ recordsFrom f (countOf f - 1) (take (length s - sizeOf f s) (drop (sizeOf f s) s))
+first-record f s = records-step f s (countOf f) (count-positive f) refl
+
+months-first : (m : ℕ) (rs : List Record) {r : Record} {others : List Record} → rs ≡ r ∷ others → monthsFrom m rs ≡ true → wholeMonth m r ≡ true
+unfolding monthsFrom
+months-first m rs {r} {others} e h = both (wholeMonth m r) (monthsFrom (suc m) others) (rw e at h) .0
+
+every-first : (p : Record → Bool) (rs : List Record) {r : Record} {others : List Record} → rs ≡ r ∷ others → every p rs ≡ true → p r ≡ true
+unfolding every
+every-first p rs {r} {others} e h = both (p r) (every p others) (rw e at h) .0
+
+month-start : (f : Format) (s : List ℕ) (m : ℕ) → wholeMonth m (recordAt f s) ≡ true
+    → (exists (wholeMinute (part s 36 12)) ≡ true) × (halfHour (part s 36 12) ≡ true)
+unfolding recordAt
+month-start f s m h = let g = month-facts m (recordAt f s) h in (g .there, begins-half (part s 36 12) (g .begins))
+
+update-start : (s : List ℕ) → Whole F203 s → updateDates (recordAt F203 s) ≡ true
+    → (exists (wholeMinute (part s 36 12)) ≡ true) × (halfHour (part s 36 12) ≡ true)
+unfolding updateDates recordAt
+update-start s w h =
+    let n = length (part s 53 (ratesOf s)) in
+    let t = part s 36 12 in
+    let i = both (inTime n (startSlot t)) (exists (part s (53 + ratesOf s + 1 + 2) 14)) h .0 in
+    let x = slotOf (secondsOf (wholeMinute t)) in
+    let j : (exists (wholeMinute t) && halfHour t) ≡ true =
+    go n x (exists (wholeMinute t) && halfHour t) (rw (start-is t (start-full F203 s w) (start-digits F203 s w)) at i) in
+    both (exists (wholeMinute t)) (halfHour t) j
+  where
+    go : (n x : ℕ) (b : Bool) → inTime n (cond b (some x) none) ≡ true → b ≡ true
+    go n x true e = refl
+    go n x false e = absurd (false≢true e)
+
+next-is : (s : List ℕ) → Whole F203 s → updateDates (recordAt F203 s) ≡ true → orZero (moment (recordAt F203 s .next)) ≡ secondsOf (recordAt F203 s .next)
+unfolding updateDates recordAt
+next-is s w h =
+    let u = part s (53 + ratesOf s + 1 + 2) 14 in
+    let e = both (inTime (length (part s 53 (ratesOf s))) (startSlot (part s 36 12))) (exists u) h .1 in
+    ap orZero (moment-some u (next-full s w (ratesOf s) refl) (next-digits s w (ratesOf s) refl) e)
+
+-- an accepted record's start is a slot's
+starts : (f : Format) (segment : ℕ) (s : List ℕ) → isSchedule f ≡ true → Whole f s
+    → recordDates (nameOf f segment []) f (recordsFrom f (countOf f) s) ≡ true
+    → (exists (wholeMinute (part s 36 12)) ≡ true) × (halfHour (part s 36 12) ≡ true)
+starts F201 segment s i w d = month-start F201 s _ (months-first _ (recordsFrom F201 13 s) (first-record F201 s) d)
+starts F202 segment s i w d = month-start F202 s _ (months-first _ (recordsFrom F202 1 s) (first-record F202 s) d)
+starts F203 segment s i w d = update-start s w (every-first updateDates (recordsFrom F203 1 s) (first-record F203 s) d)
+starts F301 segment s i w d = absurd (false≢true i)
+
+-- and the next access of a 203 exists
+access-is : (f : Format) (segment : ℕ) (s : List ℕ) → Whole f s
+    → recordDates (nameOf f segment []) f (recordsFrom f (countOf f) s) ≡ true
+    → accessAt f s ≡ accessOf f (recordsFrom f (countOf f) s)
+access-is F201 segment s w d = refl
+access-is F202 segment s w d = refl
+access-is F203 segment s w d = rw (first-record F203 s) (next-is s w (every-first updateDates (recordsFrom F203 1 s) (first-record F203 s) d))
+access-is F301 segment s w d = refl
+
+-- ---- the whole of it
+
+module _ (f : Format) (segment : ℕ) (s : List ℕ) (i : isSchedule f ≡ true) (e : shaped f (countOf f) s ≡ true)
+    (d : recordDates (nameOf f segment []) f (recordsFrom f (countOf f) s) ≡ true) where
+  start-kept : orZero (startSlot (part s 36 12)) ≡ firstStart (recordsFrom f (countOf f) s)
+  unfolding recordAt
+  start-kept =
+      let w = whole-start f s e in
+      let t = part s 36 12 in
+      let r = starts f segment s i w d in
+      rw (first-record f s, start-some t (start-full f s w) (start-digits f s w) (r .0) (r .1)) refl
+
+  flag-kept : flagOf (recordAt f s ∷ []) ≡ flagOf (recordsFrom f (countOf f) s)
+  flag-kept = rw (first-record f s) refl
+
+  -- x is the bytes beside the rates, k the records, a, g and n start, flag and next access
+  pub summary-is : (x k a g n : ℕ) → x ≡ countOf f * (53 + tailDigits f) → k ≡ countOf f → a ≡ orZero (startSlot (part s 36 12))
+      → g ≡ flagOf (recordAt f s ∷ []) → n ≡ accessAt f s
+      → _≡_ {A = Summary}
+      (record { format = f; segment = segment % 10000; records = k; rates = length s - x; start = a; flag = g; «next_access» = n; result = 0 })
+      (summaryOf (scheduleFile f segment [] (recordsFrom f (countOf f) s)))
+  unfolding summaryOf
+  summary-is x k a g n x≡ k≡ a≡ g≡ n≡ =
+      let t = rates-total f (countOf f) s e in
+      let e₁ : segment % 10000 ≡ value (decimal 4 segment) = sym (segment-value segment) in
+      let e₂ : k ≡ length (recordsFrom f (countOf f) s) = k≡ ∙ sym (records-count f (countOf f) s) in
+      let e₃ : length s - x ≡ totalRates (recordsFrom f (countOf f) s) = omega (arith, t .0) in
+      let e₄ : a ≡ firstStart (recordsFrom f (countOf f) s) = a≡ ∙ start-kept in
+      let e₅ : g ≡ flagOf (recordsFrom f (countOf f) s) = g≡ ∙ flag-kept in
+      let e₆ : n ≡ accessOf f (recordsFrom f (countOf f) s) = n≡ ∙ access-is f segment s (whole-start f s e) d in
+      cc
+
+  pub rates-room : {x : ℕ} → x ≡ countOf f * (53 + tailDigits f) → (x ≤ length s) × (length s - x ≤ 1299987)
+  rates-room x≡ =
+      let t = rates-total f (countOf f) s e in
+      let l : countOf f * 99999 ≤ 1299987 = omega (arith, count-bound f) in
+      (omega (arith, t .0), omega (arith, t .0, t .1))
+
+-- what `next_at` answers: n is the rate count
+module _ (s : List ℕ) (n : ℕ) (n≡ : n ≡ ratesOf s) where
+  next-part : part s (53 + n + 1 + 2) (53 + n + 1 + 2 + 14 - (53 + n + 1 + 2)) ≡ recordAt F203 s .next
+  unfolding recordAt
+  next-part = part-to s (53 + n + 1 + 2) 14 ∙ rw n≡ refl
+
+  pub next-at-some : (x : ℕ) → At x ≡ momentOf (moment (part s (53 + n + 1 + 2) (53 + n + 1 + 2 + 14 - (53 + n + 1 + 2))))
+      → x ≡ orZero (moment (recordAt F203 s .next))
+  next-at-some x e = or-at (moment (recordAt F203 s .next)) x (rw next-part at e)
+
+  pub next-at-none : Missing ≡ momentOf (moment (part s (53 + n + 1 + 2) (53 + n + 1 + 2 + 14 - (53 + n + 1 + 2))))
+      → 0 ≡ orZero (moment (recordAt F203 s .next))
+  next-at-none e = or-missing (moment (recordAt F203 s .next)) (rw next-part at e)

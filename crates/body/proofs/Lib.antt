@@ -1,0 +1,7 @@
+pub mod Parts
+pub mod Walk
+pub mod Count
+pub mod Fields
+pub mod Starts
+pub mod Kept
+pub mod Outcomes

@@ -1,0 +1,15 @@
+//! Document 01's rules for names, bodies and the outputs beside the unit,
+//! written down as plainly as possible. Clarity before speed.
+
+pub mod body;
+pub mod calendar;
+pub mod error_file;
+pub mod lister;
+pub mod name;
+pub mod plant;
+pub mod request;
+pub mod writer;
+
+pub use body::{read, File, Record};
+pub use name::Segment;
+pub use writer::{write, write_into, Fields};
