@@ -1,0 +1,5 @@
+pub mod Parts
+pub mod RateLaws
+pub mod PutLaws
+pub mod StoreLaws
+pub mod MissingLaws

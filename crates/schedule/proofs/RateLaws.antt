@@ -1,0 +1,50 @@
+-- Laws of the rate of a slot: a byte as a rate, and the place of a slot.
+-- Assumes nothing.
+use Prim.Native.Nat.{ℕ, zero, suc, _+_, _-_, _*_, _≤_, _<_}
+use mathlib.Core.Path.{_≡_, _∙_, refl, sym, ap}
+use mathlib.Core.Bool.{Bool, true, false, cond}
+use mathlib.Core.List.{List}
+use native.Mathlib.Omega.{arith}
+use lib.Dec.{ltb, eqb}
+use lib.ListN.{getD}
+use borrow.Author.Tests.{eq-eqb, ne-eqb, ltb-true, ltb-false}
+use Rattle.rules.specs.Calendar.{firstSlot, monthOfSlot}
+use Rattle.rules.specs.Store.{noRate, fromByte}
+use Rattle.calendar.proofs.Laws.{slot-month-from, slot-month-past, first-slot-end}
+use Rattle.pool.specs.Blocks.{findOf}
+use Rattle.pool.specs.declared.Pool.{Pool}
+use Rattle.pool.specs.declared.Found.the-variants.{At, Nothing}
+use Rattle.pool.proofs.Laws.{find-at}
+use Rattle.schedule.specs.Stored.{place, rateFound, storedRate}
+use Rattle.schedule.specs.Rates.{rateOption}
+use Rattle.schedule.specs.declared.StoredRate.the-variants.{Rate, NoRate}
+
+pub byte-none : (x : ℕ) → x ≡ 255 → NoRate ≡ rateOption (fromByte x)
+unfolding fromByte
+byte-none x e = rw (eq-eqb x 255 e)
+
+pub byte-some : (x : ℕ) → (x ≡ 255 → ⊥) → Rate x ≡ rateOption (fromByte x)
+unfolding fromByte
+byte-some x n = rw (ne-eqb x 255 n)
+
+-- a slot does not lie before its month
+pub slot-from : (s : ℕ) → firstSlot (monthOfSlot s) ≤ s
+slot-from s = go (ltb s 1753200) refl
+  where
+    go : (t : Bool) → ltb s 1753200 ≡ t → firstSlot (monthOfSlot s) ≤ s
+    go true e = slot-month-from s (ltb-true s 1753200 e)
+    go false e = let l = ltb-false s 1753200 e in rw (slot-month-past s l) (omega (arith, first-slot-end))
+
+-- a found block is one of sixteen
+pub find-below : (p : Pool) (m b : ℕ) → findOf p m ≡ At b → b < 16
+find-below p m b e = find-at p m b e .below
+
+module _ (p : Pool) (store : List ℕ) (s : ℕ) where
+  pub rate-found : (b : ℕ) → findOf p (monthOfSlot s) ≡ At b
+      → storedRate p store s ≡ fromByte (getD store (place b (s - firstSlot (monthOfSlot s))) noRate)
+  unfolding storedRate
+  rate-found b e = rw e
+
+  pub rate-nothing : findOf p (monthOfSlot s) ≡ Nothing → NoRate ≡ rateOption (storedRate p store s)
+  unfolding storedRate
+  rate-nothing e = rw e
