@@ -1,0 +1,81 @@
+-- Laws of the output: the body of a plan's records, its length, and what the answer and the buffer are with room and without.
+-- Assumes nothing.
+use Prim.Native.Nat.{ℕ, _+_, _-_, _*_, _≤_, _<_}
+use mathlib.Core.Path.{_≡_, _∙_, refl, ap}
+use mathlib.Core.List.{List, _++_, append-nil}
+use native.Mathlib.Omega.{arith}
+use lib.ListN.{length, length-append}
+use borrow.Author.Tests.{le-leb, lt-leb}
+use Rattle.rules.specs.Digits.{decimal}
+use Rattle.rules.specs.Calendar.{firstSlot}
+use Rattle.rules.specs.Body.{schedule, encodeBody, encodeRecord, encodeRecords}
+use Rattle.rules.specs.Writer.{Fields, Output, fitting, writtenOf, bufferAfter, updateRecord, writeBody}
+use Rattle.rules.specs.declared.Cause.{Cause}
+use Rattle.rules.specs.declared.Written.{Written}
+use Rattle.writer.specs.Fields.{fieldsOf, monthFields}
+use Rattle.writer.specs.Bodies.{monthsBody, updateBody}
+use Rattle.writer.specs.Placed.{Put}
+use Rattle.writer.specs.Plan.{planOf}
+use Rattle.writer.specs.Room.{MonthsGiven, UpdateGiven}
+use Rattle.writer.specs.declared.plan.Plan.the-variants.{Months, Update, Refused}
+use Rattle.writer.proofs.Placing.{length-decimal, put-first}
+use Rattle.writer.proofs.Records.{update-length}
+use Rattle.writer.proofs.Months.{monthsBytes, months-length, same-months, count-months}
+use Rattle.writer.proofs.Plans.{output-is}
+
+-- ---- bodies
+
+pub months-body : (ident plant : List ℕ) (k first : ℕ) (rates : List ℕ) → decimal 6 k ++ monthsBytes ident plant k first rates ≡ monthsBody ident plant k first rates
+unfolding encodeBody
+months-body ident plant k first rates = rw (count-months (monthFields plant ident) k first rates) refl
+
+pub months-body-length : {ident plant rates : List ℕ} {first end : ℕ} → MonthsGiven ident plant first end rates
+    → 6 + (55 * (end - first) + length rates) ≡ length (monthsBody ident plant (end - first) first rates)
+months-body-length {ident} {plant} {rates} {first} {end} h =
+    let k = end - first in
+    let to : first + k ≡ end = omega (arith, h .order) in
+    let full : firstSlot first + length rates ≡ firstSlot (first + k) = rw to (h .full) in
+    let l = months-length ident plant (h .schedule-long) (h .plant-long) k first rates full in
+    let d = length-decimal 6 k in
+    let e = ap length (months-body ident plant k first rates) in
+    omega (arith, length-append (decimal 6 k) (monthsBytes ident plant k first rates))
+
+pub update-body : (w : Fields) → decimal 6 1 ++ encodeRecord (updateRecord w) ≡ updateBody w
+unfolding encodeBody encodeRecords
+update-body w = rw append-nil refl
+
+pub update-body-length : (format : ℕ) {ident plant start next rates : List ℕ} (flag : ℕ) → UpdateGiven ident plant start next rates
+    → 6 + (70 + length rates) ≡ length (updateBody (fieldsOf format plant ident start next rates flag))
+update-body-length format {ident} {plant} {start} {next} {rates} flag h =
+    let w = fieldsOf format plant ident start next rates flag in
+    let l = update-length format ident plant start next rates flag (h .schedule-long) (h .plant-long) (h .summed .start-long) (h .next-long) in
+    let d = length-decimal 6 1 in
+    let e = ap length (update-body w) in
+    omega (arith, length-append (decimal 6 1) (encodeRecord (updateRecord w)))
+
+-- ---- the answer and the buffer
+
+module _ (before b : List ℕ) {len : ℕ} (l : len ≡ length b) where
+  pub no-room : length before < len
+      → (Written.Refused Cause.Buffer ≡ writtenOf (fitting (length before) b)) × (before ≡ bufferAfter (fitting (length before) b) before)
+  no-room h = let e = lt-leb (length b) (length before) (omega arith) in (rw e refl, rw e refl)
+
+  pub with-room : {after : List ℕ} {n : ℕ} → len ≤ length before → Put before 0 b after n
+      → (Written.Length len ≡ writtenOf (fitting (length before) b)) × (after ≡ bufferAfter (fitting (length before) b) before)
+  with-room {after} {n} h p =
+      let e = le-leb (length b) (length before) (omega arith) in
+      (rw (e, l) refl, rw e (put-first before b after n (omega arith) p))
+
+-- ---- the output of a plan
+
+module _ (w : Fields) (room : ℕ) where
+  pub months-output : {first end : ℕ} → planOf w ≡ Months first end → writeBody w room ≡ fitting room (monthsBody (w .schedule) (w .plant) (end - first) first (w .rates))
+  months-output {first} {end} e = output-is w room ∙ rw (e, same-months w (end - first) first (w .rates)) refl
+
+  pub update-output : planOf w ≡ Update
+      → writeBody w room ≡ fitting room (updateBody (fieldsOf 203 (w .plant) (w .schedule) (w .start) (w .next) (w .rates) (w .flag)))
+  unfolding updateRecord
+  update-output e = output-is w room ∙ rw e refl
+
+  pub refused-output : {c : Cause} → planOf w ≡ Refused c → writeBody w room ≡ Output.refuse c
+  refused-output e = output-is w room ∙ rw e refl

@@ -1,0 +1,322 @@
+-- Laws of the plans: what each way through the tests decides, what a plan says of the fields, and that its records are the writer's output.
+-- Assumes nothing.
+use Prim.Native.Nat.{ℕ, _+_, _-_, _≤_}
+use mathlib.Core.Path.{_≡_, _∙_, refl, sym, ap}
+use mathlib.Core.Bool.{Bool, true, false, cond, _&&_, _||_, and-assoc, and-true, false≢true}
+use mathlib.Core.List.{List, []}
+use mathlib.Core.Option.{Option, none, some}
+use native.Mathlib.Omega.{arith}
+use lib.Dec.{leb, eqb}
+use lib.ListN.{length}
+use borrow.Author.Tests.{leb-true, eqb-true, eq-eqb, ne-eqb}
+use Rattle.rules.specs.Digits.{digits, allAtMost}
+use Rattle.rules.specs.Calendar.{monthAt, firstSlot, exists, wholeMinute, startSlot}
+use Rattle.rules.specs.Plant.{plantId}
+use Rattle.rules.specs.Name.{formatOf}
+use Rattle.rules.specs.Body.{schedule}
+use Rattle.rules.specs.File.{monthBegins, inTime, updateDates}
+use Rattle.rules.specs.Writer.{Fields, need, fieldRecords, updateRecord, flagFits, digitsFit, monthsFit, writeAs, writeBody}
+use Rattle.rules.specs.declared.Cause.{Cause}
+use Rattle.rules.specs.declared.Format.{Format}
+use Rattle.rules.specs.declared.Format.the-variants.{F201, F202, F203, F301}
+use Rattle.calendar.proofs.Tests.{both}
+use Rattle.calendar.proofs.Laws.{first-slot-monotone}
+use Rattle.writer.specs.Fields.{fieldsOf}
+use Rattle.writer.specs.Plan.{needed, monthBegun, monthsPlan, updateDated, updatePlan, planAs, planOf, outputOf}
+use Rattle.writer.specs.Room.{UpdateGiven, MonthsGiven}
+use Rattle.writer.specs.declared.plan.Plan.{Plan}
+use Rattle.writer.specs.declared.plan.Plan.the-variants.{Months, Update, Refused}
+use Rattle.writer.specs.declared.plan.Begun.the-variants.{Month, Nothing}
+use Rattle.writer.proofs.Dates.{digits-length, begun-is, begun-none, begun-facts}
+
+-- ---- a 201's or 202's plan, at each return
+
+module _ (k : ℕ) (ident start rates : List ℕ) where
+  -- the fields that its dates look at
+  abbrev dateFields : Fields
+  dateFields = fieldsOf 0 [] ident start [] rates 0
+
+  -- whether m is followed by k months, and has as many rates as their slots
+  abbrev pub lengthFits : ℕ → Bool
+  lengthFits m = leb (m + k) 1200 && eqb (length rates) (firstSlot (m + k) - firstSlot m)
+
+  months-fit : monthsFit k dateFields ≡ ((exists (wholeMinute start) && monthBegins start) && lengthFits (monthAt start))
+  unfolding monthsFit
+  months-fit = and-assoc (exists (wholeMinute start) && monthBegins start) (leb (monthAt start + k) 1200) (eqb (length rates) (firstSlot (monthAt start + k) - firstSlot (monthAt start)))
+
+  pub months-form : (digits 10 ident && digits 12 start) ≡ false → Refused Cause.Form ≡ monthsPlan k ident start rates
+  unfolding monthsPlan
+  months-form e = rw e refl
+
+  module _ (d : (digits 10 ident && digits 12 start) ≡ true) where
+    pub months-unbegun : Nothing ≡ monthBegun start → Refused Cause.Date ≡ monthsPlan k ident start rates
+    unfolding monthsPlan
+    months-unbegun e = rw (d, months-fit, begun-none start e) refl
+
+    module _ (m : ℕ) (b : Month m ≡ monthBegun start) where
+      fit-is : monthsFit k dateFields ≡ lengthFits m
+      fit-is = let f = begun-is start m b in months-fit ∙ rw (f .0, ← f .1) refl
+
+      pub months-length : lengthFits m ≡ false → Refused Cause.Date ≡ monthsPlan k ident start rates
+      unfolding monthsPlan
+      months-length e = rw (d, fit-is, e) refl
+
+      module _ (f : lengthFits m ≡ true) where
+        pub months-rate : allAtMost 100 rates ≡ false → Refused Cause.Rate ≡ monthsPlan k ident start rates
+        unfolding monthsPlan
+        months-rate e = rw (d, fit-is, f, e) refl
+
+        pub months-plan : allAtMost 100 rates ≡ true → Months m (m + k) ≡ monthsPlan k ident start rates
+        unfolding monthsPlan
+        months-plan e = rw (d, fit-is, f, e, begun-is start m b .1) refl
+
+-- ---- a 203's plan, at each return
+
+module _ (ident start next rates : List ℕ) where
+  abbrev pub formFits : Bool
+  formFits = digits 10 ident && digits 12 start && (digits 14 next && leb (length rates) 336)
+
+  pub update-form : formFits ≡ false → Refused Cause.Form ≡ updatePlan ident start next rates
+  unfolding updatePlan
+  update-form e = rw e refl
+
+  module _ (d : formFits ≡ true) where
+    pub update-next : (digits 14 next ≡ true) × (length rates ≤ 336)
+    update-next =
+        let b = both (digits 14 next) (leb (length rates) 336) (both (digits 10 ident && digits 12 start) (digits 14 next && leb (length rates) 336) d .1) in
+        (b .0, leb-true (length rates) 336 (b .1))
+
+    pub update-date : updateDated start next (length rates) ≡ false → Refused Cause.Date ≡ updatePlan ident start next rates
+    unfolding updatePlan
+    update-date e = rw (d, e) refl
+
+    module _ (f : updateDated start next (length rates) ≡ true) where
+      pub update-rate : allAtMost 100 rates ≡ false → Refused Cause.Rate ≡ updatePlan ident start next rates
+      unfolding updatePlan
+      update-rate e = rw (d, f, e) refl
+
+      pub update-plan : allAtMost 100 rates ≡ true → Update ≡ updatePlan ident start next rates
+      unfolding updatePlan
+      update-plan e = rw (d, f, e) refl
+
+-- ---- the plan of the fields, at each return
+
+module _ (w : Fields) where
+  pub plan-id : plantId (w .plant) ≡ false → Refused Cause.PlantId ≡ planOf w
+  unfolding planOf
+  plan-id e = rw e refl
+
+  module _ (p : plantId (w .plant) ≡ true) where
+    pub plan-flag : flagFits w ≡ false → Refused Cause.Range ≡ planOf w
+    unfolding planOf
+    plan-flag e = rw (p, e) refl
+
+    module _ (f : flagFits w ≡ true) where
+      plan-is : planOf w ≡ planAs w (formatOf (w .format))
+      unfolding planOf
+      plan-is = rw (p, f) refl
+
+      pub plan-yearly : w .format ≡ 201 → monthsPlan 13 (w .schedule) (w .start) (w .rates) ≡ planOf w
+      unfolding formatOf
+      plan-yearly e = sym (plan-is ∙ rw (eq-eqb (w .format) 201 e) refl)
+
+      module _ (n₁ : w .format ≡ 201 → ⊥) where
+        pub plan-monthly : w .format ≡ 202 → monthsPlan 1 (w .schedule) (w .start) (w .rates) ≡ planOf w
+        unfolding formatOf
+        plan-monthly e = sym (plan-is ∙ rw (ne-eqb (w .format) 201 n₁, eq-eqb (w .format) 202 e) refl)
+
+        module _ (n₂ : w .format ≡ 202 → ⊥) where
+          pub plan-updating : w .format ≡ 203 → updatePlan (w .schedule) (w .start) (w .next) (w .rates) ≡ planOf w
+          unfolding formatOf
+          plan-updating e = sym (plan-is ∙ rw (ne-eqb (w .format) 201 n₁, ne-eqb (w .format) 202 n₂, eq-eqb (w .format) 203 e) refl)
+
+          pub plan-name : (w .format ≡ 203 → ⊥) → Refused Cause.Name ≡ planOf w
+          unfolding formatOf
+          plan-name n₃ =
+              sym (plan-is ∙ rw (ne-eqb (w .format) 201 n₁, ne-eqb (w .format) 202 n₂, ne-eqb (w .format) 203 n₃) (go (eqb (w .format) 301)))
+            where
+              go : (b : Bool) → planAs w (cond b (some F301) none) ≡ Refused Cause.Name
+              go true = refl
+              go false = refl
+
+-- ---- what a plan says of the fields
+
+-- whether a plan has records
+abbrev kept : Plan → Bool
+kept (Months first end) = true
+kept Update = true
+kept (Refused c) = false
+
+-- such a plan passed each test
+passed : (b : Bool) (c : Cause) (p q : Plan) → kept q ≡ true → needed b c p ≡ q → (b ≡ true) × (p ≡ q)
+passed true c p q a e = (refl, e)
+passed false c p q a e = absurd (false≢true (ap kept e ∙ a))
+
+-- three tests one after the other
+three-passed : (a b d : Bool) (c₁ c₂ c₃ : Cause) (p q : Plan) → kept q ≡ true → needed a c₁ (needed b c₂ (needed d c₃ p)) ≡ q
+    → (a ≡ true) × (b ≡ true) × (p ≡ q)
+three-passed a b d c₁ c₂ c₃ p q h e =
+    let p₁ = passed a c₁ (needed b c₂ (needed d c₃ p)) q h e in
+    let p₂ = passed b c₂ (needed d c₃ p) q h (p₁ .1) in
+    (p₁ .0, p₂ .0, passed d c₃ p q h (p₂ .1) .1)
+
+months-passed : (k : ℕ) (ident start rates : List ℕ) (q : Plan) → kept q ≡ true → monthsPlan k ident start rates ≡ q
+    → ((digits 10 ident && digits 12 start) ≡ true) × (monthsFit k (dateFields k ident start rates) ≡ true) × (Months (monthAt start) (monthAt start + k) ≡ q)
+unfolding monthsPlan
+months-passed k ident start rates q h e =
+    three-passed (digits 10 ident && digits 12 start) (monthsFit k (dateFields k ident start rates)) (allAtMost 100 rates) Cause.Form Cause.Date Cause.Rate (Months (monthAt start) (monthAt start + k)) q h e
+
+update-passed : (ident start next rates : List ℕ) (q : Plan) → kept q ≡ true → updatePlan ident start next rates ≡ q
+    → (formFits ident start next rates ≡ true) × (updateDated start next (length rates) ≡ true) × (Update ≡ q)
+unfolding updatePlan
+update-passed ident start next rates q h e =
+    three-passed (formFits ident start next rates) (updateDated start next (length rates)) (allAtMost 100 rates) Cause.Form Cause.Date Cause.Rate Update q h e
+
+plant-length : (id : List ℕ) → plantId id ≡ true → length id ≡ 26
+unfolding plantId
+plant-length id e = digits-length 26 id (both _ _ e .0)
+
+months-facts : (k : ℕ) (ident start rates : List ℕ) (plant : List ℕ) (first end : ℕ) → k ≤ 13 → length plant ≡ 26
+    → monthsPlan k ident start rates ≡ Months first end → MonthsGiven ident plant first end rates
+months-facts k ident start rates plant first end few long e =
+    let p = months-passed k ident start rates (Months first end) refl e in
+    let m = monthAt start in
+    let fit = both (exists (wholeMinute start) && monthBegins start) (lengthFits k ident start rates m) (sym (months-fit k ident start rates) ∙ p .1) .1 in
+    let tests = both (leb (m + k) 1200) (eqb (length rates) (firstSlot (m + k) - firstSlot m)) fit in
+    let last = leb-true (m + k) 1200 (tests .0) in
+    let slots = eqb-true (length rates) (firstSlot (m + k) - firstSlot m) (tests .1) in
+    let rises = first-slot-monotone m (m + k) (omega arith) in
+    let first-is : first ≡ m = cc (p .2) in
+    let end-is : end ≡ m + k = cc (p .2) in
+    record {
+      schedule-long = digits-length 10 ident (both (digits 10 ident) (digits 12 start) (p .0) .0);
+      plant-long = long;
+      order = omega arith;
+      last = omega arith;
+      few = omega arith;
+      full = rw (first-is, end-is) (omega arith);
+    }
+
+in-time : (n : ℕ) (o : Option ℕ) → inTime n o ≡ true → (k : ℕ) × (o ≡ some k)
+in-time n none e = absurd (false≢true e)
+in-time n (some k) e = (k, refl)
+
+update-facts : (ident start next rates plant : List ℕ) → length plant ≡ 26
+    → updatePlan ident start next rates ≡ Update → UpdateGiven ident plant start next rates
+update-facts ident start next rates plant long e =
+    let p = update-passed ident start next rates Update refl e in
+    let form = both (digits 10 ident && digits 12 start) (digits 14 next && leb (length rates) 336) (p .0) in
+    let ids = both (digits 10 ident) (digits 12 start) (form .0) in
+    let after = both (digits 14 next) (leb (length rates) 336) (form .1) in
+    let slot = in-time (length rates) (startSlot start) (both (inTime (length rates) (startSlot start)) (exists next) (p .1) .0) in
+    let month = begun-facts start (slot .0) (slot .1) in
+    let few = leb-true (length rates) 336 (after .1) in
+    record {
+      schedule-long = digits-length 10 ident (ids .0);
+      plant-long = long;
+      summed = record { start-long = digits-length 12 start (ids .1); dated = omega (arith, month .first); few = omega arith };
+      next-long = digits-length 14 next (after .0);
+    }
+
+-- the one kind of plan is not the other
+months-no-update : (k : ℕ) (ident start rates : List ℕ) → monthsPlan k ident start rates ≡ Update → ⊥
+months-no-update k ident start rates e =
+    let p = months-passed k ident start rates Update refl e in
+    let z : _≡_ {A = ℕ} 0 1 = cc (p .2) in
+    omega arith
+
+update-no-months : (ident start next rates : List ℕ) (first end : ℕ) → updatePlan ident start next rates ≡ Months first end → ⊥
+update-no-months ident start next rates first end e =
+    let p = update-passed ident start next rates (Months first end) refl e in
+    let z : _≡_ {A = ℕ} 0 1 = cc (p .2) in
+    omega arith
+
+module _ (w : Fields) where
+  months-as : (o : Option Format) (first end : ℕ) → length (w .plant) ≡ 26 → planAs w o ≡ Months first end → MonthsGiven (w .schedule) (w .plant) first end (w .rates)
+  months-as none first end long e = let z : _≡_ {A = ℕ} 0 1 = cc in absurd (omega arith)
+  months-as (some F201) first end long e = months-facts 13 (w .schedule) (w .start) (w .rates) (w .plant) first end (omega arith) long e
+  months-as (some F202) first end long e = months-facts 1 (w .schedule) (w .start) (w .rates) (w .plant) first end (omega arith) long e
+  months-as (some F203) first end long e = absurd (update-no-months (w .schedule) (w .start) (w .next) (w .rates) first end e)
+  months-as (some F301) first end long e = let z : _≡_ {A = ℕ} 0 1 = cc in absurd (omega arith)
+
+  update-as : (o : Option Format) → length (w .plant) ≡ 26 → planAs w o ≡ Update → UpdateGiven (w .schedule) (w .plant) (w .start) (w .next) (w .rates)
+  update-as none long e = let z : _≡_ {A = ℕ} 0 1 = cc in absurd (omega arith)
+  update-as (some F201) long e = absurd (months-no-update 13 (w .schedule) (w .start) (w .rates) e)
+  update-as (some F202) long e = absurd (months-no-update 1 (w .schedule) (w .start) (w .rates) e)
+  update-as (some F203) long e = update-facts (w .schedule) (w .start) (w .next) (w .rates) (w .plant) long e
+  update-as (some F301) long e = let z : _≡_ {A = ℕ} 0 1 = cc in absurd (omega arith)
+
+  -- an update's flag was looked at
+  flag-as : (yearly monthly : Bool) (o : Option Format) → (leb (w .flag) 9 || yearly || monthly) ≡ true
+      → planAs w (cond yearly (some F201) (cond monthly (some F202) o)) ≡ Update → leb (w .flag) 9 ≡ true
+  flag-as true monthly o t e = absurd (months-no-update 13 (w .schedule) (w .start) (w .rates) e)
+  flag-as false true o t e = absurd (months-no-update 1 (w .schedule) (w .start) (w .rates) e)
+  flag-as false false o t e = go (leb (w .flag) 9) t
+    where
+      go : (b : Bool) → (b || false || false) ≡ true → b ≡ true
+      go true t = refl
+      go false t = t
+
+  plan-passed : (q : Plan) → kept q ≡ true → planOf w ≡ q → (plantId (w .plant) ≡ true) × (flagFits w ≡ true) × (planAs w (formatOf (w .format)) ≡ q)
+  unfolding planOf
+  plan-passed q h e =
+      let o = planAs w (formatOf (w .format)) in
+      let p₁ = passed (plantId (w .plant)) Cause.PlantId (needed (flagFits w) Cause.Range o) q h e in
+      let p₂ = passed (flagFits w) Cause.Range o q h (p₁ .1) in
+      (p₁ .0, p₂ .0, p₂ .1)
+
+  pub plan-months : (first end : ℕ) → planOf w ≡ Months first end → MonthsGiven (w .schedule) (w .plant) first end (w .rates)
+  plan-months first end e =
+      let p = plan-passed (Months first end) refl e in
+      months-as (formatOf (w .format)) first end (plant-length (w .plant) (p .0)) (p .2)
+
+  pub plan-update : planOf w ≡ Update → UpdateGiven (w .schedule) (w .plant) (w .start) (w .next) (w .rates)
+  plan-update e =
+      let p = plan-passed Update refl e in
+      update-as (formatOf (w .format)) (plant-length (w .plant) (p .0)) (p .2)
+
+  pub plan-digit : planOf w ≡ Update → w .flag ≤ 9
+  unfolding formatOf
+  plan-digit e =
+      let p = plan-passed Update refl e in
+      leb-true (w .flag) 9 (flag-as (eqb (w .format) 201) (eqb (w .format) 202) (cond (eqb (w .format) 203) (some F203) (cond (eqb (w .format) 301) (some F301) none)) (p .1) (p .2))
+
+  -- ---- the output
+
+  module _ (room : ℕ) where
+    one-need : (b : Bool) (c : Cause) (p : Plan) → need b c (outputOf w room p) ≡ outputOf w room (needed b c p)
+    one-need true c p = refl
+    one-need false c p = refl
+
+    three-needs : (a b d : Bool) (c₁ c₂ c₃ : Cause) (p : Plan)
+        → need a c₁ (need b c₂ (need d c₃ (outputOf w room p))) ≡ outputOf w room (needed a c₁ (needed b c₂ (needed d c₃ p)))
+    three-needs true b d c₁ c₂ c₃ p = two b d
+      where
+        two : (b d : Bool) → need b c₂ (need d c₃ (outputOf w room p)) ≡ outputOf w room (needed b c₂ (needed d c₃ p))
+        two true true = refl
+        two true false = refl
+        two false d = refl
+    three-needs false b d c₁ c₂ c₃ p = refl
+
+    output-as : (o : Option Format) → writeAs room w o ≡ outputOf w room (planAs w o)
+    unfolding monthsPlan updatePlan digitsFit monthsFit updateDates updateRecord fieldRecords
+    output-as none = refl
+    output-as (some F201) =
+        let m = monthAt (w .start) in
+        let k : m + 13 - m ≡ 13 = omega arith in
+        rw (and-true (digits 10 (w .schedule) && digits 12 (w .start)))
+        (sym (sym (three-needs (digits 10 (w .schedule) && digits 12 (w .start)) (monthsFit 13 w) (allAtMost 100 (w .rates)) Cause.Form Cause.Date Cause.Rate (Months m (m + 13))) ∙ rw k refl))
+    output-as (some F202) =
+        let m = monthAt (w .start) in
+        let k : m + 1 - m ≡ 1 = omega arith in
+        rw (and-true (digits 10 (w .schedule) && digits 12 (w .start)))
+        (sym (sym (three-needs (digits 10 (w .schedule) && digits 12 (w .start)) (monthsFit 1 w) (allAtMost 100 (w .rates)) Cause.Form Cause.Date Cause.Rate (Months m (m + 1))) ∙ rw k refl))
+    output-as (some F203) =
+        three-needs (formFits (w .schedule) (w .start) (w .next) (w .rates)) (updateDated (w .start) (w .next) (length (w .rates))) (allAtMost 100 (w .rates)) Cause.Form Cause.Date Cause.Rate Update
+    output-as (some F301) = refl
+
+    pub output-is : writeBody w room ≡ outputOf w room (planOf w)
+    unfolding writeBody planOf
+    output-is =
+        let o = formatOf (w .format) in
+        rw (output-as o, one-need (flagFits w) Cause.Range (planAs w o)) (one-need (plantId (w .plant)) Cause.PlantId (needed (flagFits w) Cause.Range (planAs w o)))

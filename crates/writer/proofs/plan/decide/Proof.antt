@@ -1,0 +1,73 @@
+-- `writer::plan::decide` meets its contract. Each return has a law on the fields. Assumes nothing.
+use mathlib.Core.Path.{_≡_, _∙_, sym}
+use denote.Ref.{now}
+use mathlib.Core.Bool.{true}
+use borrow.Author.Tests.{not-true, not-false}
+use Rattle.rules.specs.Plant.{plantId}
+use Rattle.rules.specs.Writer.{Fields, flagFits}
+use Rattle.writer.specs.Fields.{fieldsOf}
+use Rattle.writer.proofs.Plans.{plan-id, plan-flag, plan-yearly, plan-monthly, plan-updating, plan-name}
+use borrow.Author.Needs.{needs}
+use Rattle.writer.proofs.plan.decide.Statement.{statement}
+use Rattle.writer.proofs.plan.decide.Tie as tie
+
+abbrev fields : tie.Start → Fields
+fields c =
+    let a = c .args in
+    fieldsOf (a .format) (now (a .plant)) (now (a .schedule)) (now (a .start)) (now (a .next)) (now (a .rates)) (a .flag)
+
+is-plant : (c : tie.Else1) → plantId (fields (c .before .before .before .before .before .before .before) .plant) ≡ true
+is-plant c = sym (c .before .is-plant-id .ensures) ∙ not-false _ (c .if1 .left)
+
+fits-flag : (c : tie.Else2) → flagFits (fields (c .before .before .before .before .before .before .before .before)) ≡ true
+fits-flag c = not-false (flagFits (fields (c .before .before .before .before .before .before .before .before))) (c .if2 .left)
+
+is-plant-id-requires : tie.Need-is-plant-id-requires
+is-plant-id-requires c κs = search needs
+
+returns : tie.Need-returns
+returns c = plan-id (fields (c .before .before .before .before .before .before .before)) (sym (c .before .is-plant-id .ensures) ∙ not-true _ (c .if1 .taken))
+
+returns-2 : tie.Need-returns-2
+returns-2 c = plan-flag (fields (c .before .before .before .before .before .before .before .before)) (is-plant (c .before)) (not-true (flagFits (fields (c .before .before .before .before .before .before .before .before))) (c .if2 .taken))
+
+plan-months-requires : tie.Need-plan-months-requires
+plan-months-requires c κs = search needs
+
+returns-3 : tie.Need-returns-3
+returns-3 c = c .plan-months .ensures ∙ plan-yearly (fields (c .before .before .before .before .before .before .before .before .before .before)) (is-plant (c .before .before .before)) (fits-flag (c .before .before)) (c .before .if3 .taken)
+
+plan-months-requires-2 : tie.Need-plan-months-requires-2
+plan-months-requires-2 c κs = search needs
+
+returns-4 : tie.Need-returns-4
+returns-4 c =
+    c .plan-months2 .ensures
+    ∙ plan-monthly (fields (c .before .before .before .before .before .before .before .before .before .before .before)) (is-plant (c .before .before .before .before)) (fits-flag (c .before .before .before)) (c .before .before .if3 .left) (c .before .if4 .taken)
+
+plan-update-requires : tie.Need-plan-update-requires
+plan-update-requires c κs = search needs
+
+returns-5 : tie.Need-returns-5
+returns-5 c =
+    c .plan-update .ensures
+    ∙ plan-updating (fields (c .before .before .before .before .before .before .before .before .before .before .before .before)) (is-plant (c .before .before .before .before .before)) (fits-flag (c .before .before .before .before)) (c .before .before .before .if3 .left) (c .before .before .if4 .left) (c .before .if5 .taken)
+
+returns-6 : tie.Need-returns-6
+returns-6 c =
+    plan-name (fields (c .before .before .before .before .before .before .before .before .before .before .before)) (is-plant (c .before .before .before .before)) (fits-flag (c .before .before .before)) (c .before .before .if3 .left) (c .before .if4 .left) (c .if5 .left)
+
+pub decide-spec : {M : Type 1} → statement M
+decide-spec =
+    tie.close
+    (tie.spec
+    is-plant-id-requires
+    returns
+    returns-2
+    plan-months-requires
+    returns-3
+    plan-months-requires-2
+    returns-4
+    plan-update-requires
+    returns-5
+    returns-6)

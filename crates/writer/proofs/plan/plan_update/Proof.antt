@@ -1,0 +1,73 @@
+-- `writer::plan::plan_update` meets its contract. Each return has a law on the fields. Assumes nothing.
+use mathlib.Core.Path.{_≡_, _∙_, sym}
+use denote.Ref.{now}
+use mathlib.Core.Bool.{Bool, true, false, _&&_}
+use borrow.Author.Tests.{not-true, not-false}
+use lib.Dec.{leb}
+use lib.ListN.{length}
+use Rattle.writer.proofs.Plans.{formFits, update-form, update-next, update-date, update-rate, update-plan}
+use borrow.Author.Needs.{needs}
+use Rattle.writer.proofs.plan.plan_update.Statement.{statement}
+use Rattle.writer.proofs.plan.plan_update.Tie as tie
+
+-- the first test
+abbrev flags : tie.After-is-digits3 → Bool
+flags c =
+    c .before .is-digits2 .result && c .is-digits3 .result
+    && (c .before .before .is-digits .result && leb (length (now (c .before .before .before .before .before .before .before .args .rates))) 336)
+
+form-tested : (c : tie.After-is-digits3) (t : Bool) → flags c ≡ t
+    → let a = c .before .before .before .before .before .before .before .args in
+    formFits (now (a .schedule)) (now (a .start)) (now (a .next)) (now (a .rates)) ≡ t
+form-tested c t e = cc (c .is-digits3 .ensures, c .before .is-digits2 .ensures, c .before .before .is-digits .ensures)
+
+is-digits-requires : tie.Need-is-digits-requires
+is-digits-requires c κs = search needs
+
+is-digits-requires-2 : tie.Need-is-digits-requires-2
+is-digits-requires-2 c κs = search needs
+
+is-digits-requires-3 : tie.Need-is-digits-requires-3
+is-digits-requires-3 c κs = search needs
+
+returns : tie.Need-returns
+returns c = update-form _ _ _ _ (form-tested (c .before) false (not-true (flags (c .before)) (c .if1 .taken)))
+
+is-dated-requires : tie.Need-is-dated-requires
+is-dated-requires c κs =
+    let a = c .before .before .before .before .before .before .before .before .args in
+    update-next (now (a .schedule)) (now (a .start)) (now (a .next)) (now (a .rates)) (form-tested (c .before) true (not-false (flags (c .before)) (c .if1 .left)))
+
+returns-2 : tie.Need-returns-2
+returns-2 c =
+    let e = c .before .before .before in
+    update-date _ _ _ _ (form-tested e true (not-false (flags e) (c .before .before .if1 .left))) (sym (c .before .is-dated .ensures) ∙ not-true _ (c .if2 .taken))
+
+all-at-most-requires : tie.Need-all-at-most-requires
+all-at-most-requires c κs = search needs
+
+returns-3 : tie.Need-returns-3
+returns-3 c =
+    let e = c .before .before .before .before .before in
+    update-rate _ _ _ _ (form-tested e true (not-false (flags e) (c .before .before .before .before .if1 .left))) (sym (c .before .before .before .is-dated .ensures) ∙ not-false _ (c .before .before .if2 .left))
+    (sym (c .before .all-at-most .ensures) ∙ not-true _ (c .if3 .taken))
+
+returns-4 : tie.Need-returns-4
+returns-4 c =
+    let e = c .before .before .before .before .before in
+    update-plan _ _ _ _ (form-tested e true (not-false (flags e) (c .before .before .before .before .if1 .left))) (sym (c .before .before .before .is-dated .ensures) ∙ not-false _ (c .before .before .if2 .left))
+    (sym (c .before .all-at-most .ensures) ∙ not-false _ (c .if3 .left))
+
+pub plan-update-spec : {M : Type 1} → statement M
+plan-update-spec =
+    tie.close
+    (tie.spec
+    is-digits-requires
+    is-digits-requires-2
+    is-digits-requires-3
+    returns
+    is-dated-requires
+    returns-2
+    all-at-most-requires
+    returns-3
+    returns-4)

@@ -1,0 +1,92 @@
+-- `writer::record::put_months` meets its contract. Assumes nothing.
+use Prim.Native.Nat.{_-_}
+use native.Mathlib.Omega.{arith}
+use borrow.Author.Needs.{needs}
+use lib.ListN.{length}
+use Rattle.calendar.proofs.Laws.{days-range}
+use Rattle.writer.specs.Room.{MonthsRoom}
+use Rattle.writer.proofs.Months.{Going, months-start, months-end, part-within, month-room, months-step}
+use Rattle.writer.proofs.record.put_months.Statement.{statement}
+use Rattle.writer.proofs.record.put_months.Tie as tie
+
+abbrev Inv-loop : tie.InvT-loop
+Inv-loop out₀ at schedule plant first end rates month₀ from₀ place₀ out month from place =
+    MonthsRoom (length out₀) at schedule plant first end rates × Going out₀ at schedule plant first end rates out month from place
+
+abbrev μ-loop : tie.MeasureT-loop
+μ-loop out₀ at schedule plant first end rates month₀ from₀ place₀ out month from place = end - month
+
+loop-holds : tie.Need-loop-holds Inv-loop μ-loop
+loop-holds c = (c .before .before .before .before .pre, months-start (c .before .before .before .before .pre))
+
+days-of-month-requires : tie.Need-days-of-month-requires Inv-loop μ-loop
+days-of-month-requires c κs = search needs
+
+cast-to : tie.Need-cast-to Inv-loop μ-loop
+cast-to c = omega (arith, c .days-of-month .ensures, days-range (c .before .before .loop .month))
+
+mul-to : tie.Need-mul-to Inv-loop μ-loop
+mul-to c = omega (arith, c .days-of-month .ensures, days-range (c .before .before .loop .month))
+
+add-to : tie.Need-add-to Inv-loop μ-loop
+add-to c =
+    let l = c .before .before .loop in
+    omega (arith, part-within (l .inv .0) (l .inv .1) _ (c .days-of-month .ensures) (c .before .loop-test .taken), c .before .before .before .before .before .before .before .good)
+
+sub-put-month : tie.Need-sub-put-month Inv-loop μ-loop
+sub-put-month c = omega arith
+
+part-put-month-start : tie.Need-part-put-month-start Inv-loop μ-loop
+part-put-month-start c = search needs
+
+part-put-month-end : tie.Need-part-put-month-end Inv-loop μ-loop
+part-put-month-end c =
+    let l = c .before .before .before .loop in
+    part-within (l .inv .0) (l .inv .1) _ (c .before .days-of-month .ensures) (c .before .before .loop-test .taken)
+
+put-month-requires : tie.Need-put-month-requires Inv-loop μ-loop
+put-month-requires c κs =
+    let l = c .before .before .before .before .loop in
+    month-room (l .inv .0) (l .inv .1) _ (c .before .before .days-of-month .ensures) (c .before .before .before .loop-test .taken)
+
+add-month : tie.Need-add-month Inv-loop μ-loop
+add-month c =
+    let l = c .before .before .before .before .before .before .before .loop in
+    omega (arith, l .inv .0 .given .last, c .before .before .before .before .before .before .loop-test .taken)
+
+loop-less : tie.Need-loop-less Inv-loop μ-loop
+loop-less c = omega (arith, c .before .before .before .before .before .before .loop-test .taken)
+
+loop-again : tie.Need-loop-again Inv-loop μ-loop
+loop-again c =
+    let l = c .before .before .before .before .before .before .before .loop in
+    (l .inv .0, months-step (l .inv .0) (l .inv .1) _ (c .before .before .before .before .before .days-of-month .ensures) (c .before .before .before .before .before .before .loop-test .taken) (c .before .before .put-month .kept .0) (c .before .before .put-month .ensures))
+
+same-length : tie.Need-same-length Inv-loop μ-loop
+same-length c = c .before .loop .inv .1 .same
+
+returns : tie.Need-returns Inv-loop μ-loop
+returns c =
+    let l = c .before .loop in
+    months-end (l .inv .0) (l .inv .1) (c .loop-test .left)
+
+pub put-months-spec : {M : Type 1} → statement M
+put-months-spec =
+    tie.close
+    (tie.spec
+    Inv-loop
+    μ-loop
+    loop-holds
+    days-of-month-requires
+    cast-to
+    mul-to
+    add-to
+    sub-put-month
+    part-put-month-start
+    part-put-month-end
+    put-month-requires
+    add-month
+    loop-less
+    loop-again
+    same-length
+    returns)

@@ -1,0 +1,5 @@
+pub mod Fields
+pub mod Bodies
+pub mod Placed
+pub mod Room
+pub mod Plan

@@ -1,0 +1,72 @@
+-- What is decided before the first byte: the cause of a refusal, or the records of the body. Where there is room, the plan's records are the output.
+use Prim.Native.Nat.{ℕ, _+_, _-_}
+use mathlib.Core.Bool.{Bool, true, false, _&&_}
+use mathlib.Core.List.{List, [], _∷_}
+use mathlib.Core.Option.{Option, none, some}
+use lib.ListN.{length}
+use lib.Dec.{leb}
+use Rattle.rules.specs.Digits.{digits, allAtMost}
+use Rattle.rules.specs.Calendar.{monthAt, startSlot, exists, wholeMinute}
+use Rattle.rules.specs.Plant.{plantId}
+use Rattle.rules.specs.Name.{formatOf}
+use Rattle.rules.specs.Body.{schedule, encodeBody}
+use Rattle.rules.specs.File.{inTime, monthBegins}
+use Rattle.rules.specs.Writer.{Fields, Output, refuse, fitting, monthRecords, updateRecord, flagFits, monthsFit}
+use Rattle.rules.specs.declared.Cause.{Cause}
+use Rattle.rules.specs.declared.Format.{Format}
+use Rattle.rules.specs.declared.Format.the-variants.{F201, F202, F203, F301}
+use Rattle.writer.specs.Fields.{fieldsOf}
+use Rattle.writer.specs.declared.plan.Plan.{Plan}
+use Rattle.writer.specs.declared.plan.Plan.the-variants.{Months, Update, Refused}
+use Rattle.writer.specs.declared.plan.Begun.{Begun}
+use Rattle.writer.specs.declared.plan.Begun.the-variants.{Month, Nothing}
+
+abbrev pub needed : Bool → Cause → Plan → Plan
+needed true c p = p
+needed false c p = Refused c
+
+-- the month that digits begin, where they do
+abbrev pub begunOf : Bool → ℕ → Begun
+begunOf true m = Month m
+begunOf false m = Nothing
+
+abbrev pub monthBegun : List ℕ → Begun
+monthBegun start = begunOf (exists (wholeMinute start) && monthBegins start) (monthAt start)
+
+-- a 201 or 202: k months from the start's month on
+unfoldable pub monthsPlan : ℕ → List ℕ → List ℕ → List ℕ → Plan
+monthsPlan k ident start rates =
+    needed (digits 10 ident && digits 12 start) Cause.Form
+    (needed (monthsFit k (fieldsOf 0 [] ident start [] rates 0)) Cause.Date
+    (needed (allAtMost 100 rates) Cause.Rate
+    (Months (monthAt start) (monthAt start + k))))
+
+-- whether an update's n rates and its next access stand before the end of 2099
+abbrev pub updateDated : List ℕ → List ℕ → ℕ → Bool
+updateDated start next n = inTime n (startSlot start) && exists next
+
+-- a 203
+unfoldable pub updatePlan : List ℕ → List ℕ → List ℕ → List ℕ → Plan
+updatePlan ident start next rates =
+    needed (digits 10 ident && digits 12 start && (digits 14 next && leb (length rates) 336)) Cause.Form
+    (needed (updateDated start next (length rates)) Cause.Date
+    (needed (allAtMost 100 rates) Cause.Rate Update))
+
+abbrev pub planAs : Fields → Option Format → Plan
+planAs w none = Refused Cause.Name
+planAs w (some F201) = monthsPlan 13 (w .schedule) (w .start) (w .rates)
+planAs w (some F202) = monthsPlan 1 (w .schedule) (w .start) (w .rates)
+planAs w (some F203) = updatePlan (w .schedule) (w .start) (w .next) (w .rates)
+planAs w (some F301) = Refused Cause.Name
+
+unfoldable pub planOf : Fields → Plan
+planOf w =
+    needed (plantId (w .plant)) Cause.PlantId
+    (needed (flagFits w) Cause.Range
+    (planAs w (formatOf (w .format))))
+
+-- the output of a plan, into so much room
+abbrev pub outputOf : Fields → ℕ → Plan → Output
+outputOf w room (Months first end) = fitting room (encodeBody (schedule (monthRecords w (end - first) first (w .rates))))
+outputOf w room Update = fitting room (encodeBody (schedule (updateRecord w ∷ [])))
+outputOf w room (Refused c) = refuse c
