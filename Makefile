@@ -1,5 +1,9 @@
 # The two commands of the README, and what stands beside them.
-.PHONY: test demo
+.PHONY: demo test bench
+
+# The lister on example 10 of document 01.
+demo:
+	@scripts/demo
 
 # Proves every crate and runs every test; ends in `N passed, 0 failed`.
 test:
