@@ -3,3 +3,4 @@ pub mod RateLaws
 pub mod PutLaws
 pub mod StoreLaws
 pub mod MissingLaws
+pub mod Laws

@@ -92,7 +92,7 @@ and-none false = refl
 part-count : (s low high : ℕ) → s ≤ low → low < high → (high - s) - (low - s) ≡ high - low
 part-count s low high h k = omega arith
 
-part-room : (first low high n : ℕ) → first ≤ low → low < high → high ≤ first + 1488 → n ≤ high - low → (low - first) + n ≤ 1488
+pub part-room : (first low high n : ℕ) → first ≤ low → low < high → high ≤ first + 1488 → n ≤ high - low → (low - first) + n ≤ 1488
 part-room first low high n a b c d = omega arith
 
 module _ (m s first low high : ℕ) (rates : List ℕ) (f : first ≡ firstSlot m) (l : low ≡ max s first) (h : high ≡ min (s + length rates) (firstSlot (suc m))) where

@@ -17,7 +17,7 @@ use Rattle.pool.specs.declared.Found.the-variants.{At, Nothing}
 use Rattle.pool.proofs.Laws.{find-at}
 use Rattle.schedule.specs.Stored.{place, rateFound, storedRate}
 use Rattle.schedule.specs.Rates.{rateOption}
-use Rattle.schedule.specs.declared.StoredRate.the-variants.{Rate, NoRate}
+use Rattle.schedule.specs.declared.rates.StoredRate.the-variants.{Rate, NoRate}
 
 pub byte-none : (x : ℕ) → x ≡ 255 → NoRate ≡ rateOption (fromByte x)
 unfolding fromByte

@@ -8,8 +8,8 @@ use Rattle.rules.specs.Calendar.{firstSlot, monthOfSlot, slotCount}
 use Rattle.rules.specs.Store.{storeLength, noRate, blockOf, soundBlock}
 use Rattle.pool.specs.Blocks.{isFree, monthOf}
 use Rattle.pool.specs.declared.Pool.{Pool}
-use Rattle.schedule.specs.declared.StoredRate.{StoredRate}
-use Rattle.schedule.specs.declared.StoredRate.the-variants.{Rate, NoRate}
+use Rattle.schedule.specs.declared.rates.StoredRate.{StoredRate}
+use Rattle.schedule.specs.declared.rates.StoredRate.the-variants.{Rate, NoRate}
 use Rattle.schedule.specs.Stored.{Stored, Piece}
 
 -- what the code answers for the rate of a slot

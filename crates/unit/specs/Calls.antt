@@ -4,11 +4,9 @@ use mathlib.Core.Bool.{Bool, true, false, cond}
 use mathlib.Core.List.{List, [], _∷_}
 use mathlib.Core.Option.{Option, none, some}
 use lib.Dec.{leb, ltb}
-use lib.ListN.{length}
 use Rattle.rules.specs.Calendar.{slotOf}
 use Rattle.rules.specs.Plant.{Settings, lastDigit, percent}
-use Rattle.rules.specs.Body.{Record}
-use Rattle.rules.specs.File.{File, Outcome, refuse, file, takeFile, recordsIn, startOf}
+use Rattle.rules.specs.File.{File, Outcome, refuse, file, takeFile, recordsIn}
 use Rattle.rules.specs.Machine.{raisedFloor, approach, target, failed, dueOf, takeBy}
 use Rattle.rules.specs.Causes.{Reply, refused, numberOf}
 use Rattle.rules.specs.declared.Cause.{Cause}
@@ -19,7 +17,8 @@ use Rattle.rules.specs.declared.FreeBlocks.{FreeBlocks}
 use Rattle.rules.specs.declared.Kind.{Kind}
 use Rattle.plant.specs.Plant.{settingsOf}
 use Rattle.pool.specs.Blocks.{releaseOf, freeCount}
-use Rattle.schedule.specs.Stored.{Stored, storedRate, putRun, missing}
+use Rattle.schedule.specs.Stored.{Stored, storedRate, missing}
+use Rattle.agreement.specs.Run.{runStart, runLength, putRecords}
 use Rattle.requests.specs.Requests.{requestsOf}
 use Rattle.unit.specs.Values.{clockOf, requestsFrom}
 use Rattle.unit.specs.Rows.{Row, firstOf, lengthRow, unitRow, soundRow, clockRow, tickRow, slotRow, statusRow}
@@ -90,25 +89,11 @@ lostOf u = doneBy (firstOf (unitRow u ∷ [])) (lost u) u
 
 -- ---- file taken
 
--- the records put in order, each from its start slot on
-unfoldable pub putRecords : ℕ → List Record → Stored → Stored
-putRecords floor [] st = st
-putRecords floor (r ∷ rs) st = putRecords floor rs (putRun floor (startOf r) (r .rates) st)
-
--- the slots that a file's records cover: the first, and how many
-abbrev pub firstOfRun : List Record → ℕ
-firstOfRun [] = 0
-firstOfRun (r ∷ rs) = startOf r
-
-unfoldable pub runLength : List Record → ℕ
-runLength [] = 0
-runLength (r ∷ rs) = length (r .rates) + runLength rs
-
 -- 14: 'more than 16 months would be held'
 unfoldable pub fullRow : File → Unit → Row
 fullRow f u =
     let rs = recordsIn (f .body) in
-    record { applies = ltb (freeCount (u .pool)) (missing (u .pool) (u .floor) (firstOfRun rs) (runLength rs)); cause = Cause.Full }
+    record { applies = ltb (freeCount (u .pool)) (missing (u .pool) (u .floor) (runStart rs) (runLength rs)); cause = Cause.Full }
 
 -- 7 to 13 by reading, then 14
 abbrev pub outcomeRow : Outcome → Unit → Row

@@ -129,7 +129,8 @@ module _ {before : List ℕ} {at : ℕ} {schedule plant : List ℕ} {first end :
           let back : from + (to - from) ≡ to = omega arith in
           let left : List ℕ = drop from rates in
           let k′ = end - (month + 1) in
-          let bytes : monthsBytes schedule plant (end - month) month left ≡ monthBytes schedule plant month these ++ monthsBytes schedule plant k′ (month + 1) (drop to rates) =
+          let bytes : monthsBytes schedule plant (end - month) month left
+          ≡ monthBytes schedule plant month these ++ monthsBytes schedule plant k′ (month + 1) (drop to rates) =
           rw (k, months-more schedule plant k′ month left, drop-drop (slotsOfMonth month) from rates, ← e, back, add-one month) refl in
           let step = first-slot-step month in
           let next : firstSlot (month + 1) ≡ firstSlot (suc month) = rw add-one refl in

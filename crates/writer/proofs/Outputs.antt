@@ -25,7 +25,8 @@ use Rattle.writer.proofs.Plans.{output-is}
 
 -- ---- bodies
 
-pub months-body : (ident plant : List ℕ) (k first : ℕ) (rates : List ℕ) → decimal 6 k ++ monthsBytes ident plant k first rates ≡ monthsBody ident plant k first rates
+pub months-body : (ident plant : List ℕ) (k first : ℕ) (rates : List ℕ)
+    → decimal 6 k ++ monthsBytes ident plant k first rates ≡ monthsBody ident plant k first rates
 unfolding encodeBody
 months-body ident plant k first rates = rw (count-months (monthFields plant ident) k first rates) refl
 
@@ -69,7 +70,8 @@ module _ (before b : List ℕ) {len : ℕ} (l : len ≡ length b) where
 -- ---- the output of a plan
 
 module _ (w : Fields) (room : ℕ) where
-  pub months-output : {first end : ℕ} → planOf w ≡ Months first end → writeBody w room ≡ fitting room (monthsBody (w .schedule) (w .plant) (end - first) first (w .rates))
+  pub months-output : {first end : ℕ} → planOf w ≡ Months first end
+      → writeBody w room ≡ fitting room (monthsBody (w .schedule) (w .plant) (end - first) first (w .rates))
   months-output {first} {end} e = output-is w room ∙ rw (e, same-months w (end - first) first (w .rates)) refl
 
   pub update-output : planOf w ≡ Update

@@ -16,7 +16,9 @@ use Rattle.writer.specs.Placed.{placed, Put}
 
 sets-append : (a b l : List ℕ) (i : ℕ) → sets l i (a ++ b) ≡ sets (sets l i a) (i + length a) b
 sets-append [] b l i = rw add-zero refl
-sets-append (x ∷ a) b l i = sets-append a b (set l i x) (suc i) ∙ ap (λ (k : ℕ). sets (sets (set l i x) (suc i) a) k b) (suc-add i (length a) ∙ sym (add-suc i (length a)))
+sets-append (x ∷ a) b l i =
+    sets-append a b (set l i x) (suc i)
+    ∙ ap (λ (k : ℕ). sets (sets (set l i x) (suc i) a) k b) (suc-add i (length a) ∙ sym (add-suc i (length a)))
 
 -- a store past a run, before it or after it
 sets-set : (a l : List ℕ) (i j x : ℕ) → i + length a ≤ j → sets (set l j x) i a ≡ set (sets l i a) j x

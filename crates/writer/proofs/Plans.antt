@@ -13,9 +13,9 @@ use Rattle.rules.specs.Digits.{digits, allAtMost}
 use Rattle.rules.specs.Calendar.{monthAt, firstSlot, exists, wholeMinute, startSlot}
 use Rattle.rules.specs.Plant.{plantId}
 use Rattle.rules.specs.Name.{formatOf}
-use Rattle.rules.specs.Body.{schedule}
+use Rattle.rules.specs.Body.{schedule, encodeBody}
 use Rattle.rules.specs.File.{monthBegins, inTime, updateDates}
-use Rattle.rules.specs.Writer.{Fields, need, fieldRecords, updateRecord, flagFits, digitsFit, monthsFit, writeAs, writeBody}
+use Rattle.rules.specs.Writer.{Fields, need, fitting, monthRecords, fieldRecords, updateRecord, flagFits, digitsFit, monthsFit, writeAs, writeBody}
 use Rattle.rules.specs.declared.Cause.{Cause}
 use Rattle.rules.specs.declared.Format.{Format}
 use Rattle.rules.specs.declared.Format.the-variants.{F201, F202, F203, F301}
@@ -42,7 +42,9 @@ module _ (k : ℕ) (ident start rates : List ℕ) where
 
   months-fit : monthsFit k dateFields ≡ ((exists (wholeMinute start) && monthBegins start) && lengthFits (monthAt start))
   unfolding monthsFit
-  months-fit = and-assoc (exists (wholeMinute start) && monthBegins start) (leb (monthAt start + k) 1200) (eqb (length rates) (firstSlot (monthAt start + k) - firstSlot (monthAt start)))
+  months-fit =
+      let m = monthAt start in
+      and-assoc (exists (wholeMinute start) && monthBegins start) (leb (m + k) 1200) (eqb (length rates) (firstSlot (m + k) - firstSlot m))
 
   pub months-form : (digits 10 ident && digits 12 start) ≡ false → Refused Cause.Form ≡ monthsPlan k ident start rates
   unfolding monthsPlan
@@ -164,13 +166,16 @@ months-passed : (k : ℕ) (ident start rates : List ℕ) (q : Plan) → kept q �
     → ((digits 10 ident && digits 12 start) ≡ true) × (monthsFit k (dateFields k ident start rates) ≡ true) × (Months (monthAt start) (monthAt start + k) ≡ q)
 unfolding monthsPlan
 months-passed k ident start rates q h e =
-    three-passed (digits 10 ident && digits 12 start) (monthsFit k (dateFields k ident start rates)) (allAtMost 100 rates) Cause.Form Cause.Date Cause.Rate (Months (monthAt start) (monthAt start + k)) q h e
+    let m = monthAt start in
+    three-passed (digits 10 ident && digits 12 start) (monthsFit k (dateFields k ident start rates)) (allAtMost 100 rates)
+    Cause.Form Cause.Date Cause.Rate (Months m (m + k)) q h e
 
 update-passed : (ident start next rates : List ℕ) (q : Plan) → kept q ≡ true → updatePlan ident start next rates ≡ q
     → (formFits ident start next rates ≡ true) × (updateDated start next (length rates) ≡ true) × (Update ≡ q)
 unfolding updatePlan
 update-passed ident start next rates q h e =
-    three-passed (formFits ident start next rates) (updateDated start next (length rates)) (allAtMost 100 rates) Cause.Form Cause.Date Cause.Rate Update q h e
+    three-passed (formFits ident start next rates) (updateDated start next (length rates)) (allAtMost 100 rates)
+    Cause.Form Cause.Date Cause.Rate Update q h e
 
 plant-length : (id : List ℕ) → plantId id ≡ true → length id ≡ 26
 unfolding plantId
@@ -232,7 +237,8 @@ update-no-months ident start next rates first end e =
     omega arith
 
 module _ (w : Fields) where
-  months-as : (o : Option Format) (first end : ℕ) → length (w .plant) ≡ 26 → planAs w o ≡ Months first end → MonthsGiven (w .schedule) (w .plant) first end (w .rates)
+  months-as : (o : Option Format) (first end : ℕ) → length (w .plant) ≡ 26 → planAs w o ≡ Months first end
+      → MonthsGiven (w .schedule) (w .plant) first end (w .rates)
   months-as none first end long e = let z : _≡_ {A = ℕ} 0 1 = cc in absurd (omega arith)
   months-as (some F201) first end long e = months-facts 13 (w .schedule) (w .start) (w .rates) (w .plant) first end (omega arith) long e
   months-as (some F202) first end long e = months-facts 1 (w .schedule) (w .start) (w .rates) (w .plant) first end (omega arith) long e
@@ -279,7 +285,9 @@ module _ (w : Fields) where
   unfolding formatOf
   plan-digit e =
       let p = plan-passed Update refl e in
-      leb-true (w .flag) 9 (flag-as (eqb (w .format) 201) (eqb (w .format) 202) (cond (eqb (w .format) 203) (some F203) (cond (eqb (w .format) 301) (some F301) none)) (p .1) (p .2))
+      let n = w .format in
+      let others = cond (eqb n 203) (some F203) (cond (eqb n 301) (some F301) none) in
+      leb-true (w .flag) 9 (flag-as (eqb n 201) (eqb n 202) others (p .1) (p .2))
 
   -- ---- the output
 
@@ -290,33 +298,36 @@ module _ (w : Fields) where
 
     three-needs : (a b d : Bool) (c₁ c₂ c₃ : Cause) (p : Plan)
         → need a c₁ (need b c₂ (need d c₃ (outputOf w room p))) ≡ outputOf w room (needed a c₁ (needed b c₂ (needed d c₃ p)))
-    three-needs true b d c₁ c₂ c₃ p = two b d
-      where
-        two : (b d : Bool) → need b c₂ (need d c₃ (outputOf w room p)) ≡ outputOf w room (needed b c₂ (needed d c₃ p))
-        two true true = refl
-        two true false = refl
-        two false d = refl
-    three-needs false b d c₁ c₂ c₃ p = refl
+    three-needs a b d c₁ c₂ c₃ p = rw (one-need d c₃ p, one-need b c₂ (needed d c₃ p)) (one-need a c₁ (needed b c₂ (needed d c₃ p)))
+
+    -- a 201 or 202
+    months-output : (k : ℕ)
+        → need (digits 10 (w .schedule) && digits 12 (w .start) && true) Cause.Form
+        (need (monthsFit k w) Cause.Date
+        (need (allAtMost 100 (w .rates)) Cause.Rate
+        (fitting room (encodeBody (schedule (monthRecords w k (monthAt (w .start)) (w .rates)))))))
+        ≡ outputOf w room (monthsPlan k (w .schedule) (w .start) (w .rates))
+    unfolding monthsPlan monthsFit
+    months-output k =
+        let m = monthAt (w .start) in
+        let form = digits 10 (w .schedule) && digits 12 (w .start) in
+        let k-is : m + k - m ≡ k = omega arith in
+        sym (sym (three-needs form (monthsFit k w) (allAtMost 100 (w .rates)) Cause.Form Cause.Date Cause.Rate (Months m (m + k)))
+        ∙ rw (k-is, and-true form) refl)
 
     output-as : (o : Option Format) → writeAs room w o ≡ outputOf w room (planAs w o)
-    unfolding monthsPlan updatePlan digitsFit monthsFit updateDates updateRecord fieldRecords
+    unfolding updatePlan digitsFit updateDates updateRecord fieldRecords
     output-as none = refl
-    output-as (some F201) =
-        let m = monthAt (w .start) in
-        let k : m + 13 - m ≡ 13 = omega arith in
-        rw (and-true (digits 10 (w .schedule) && digits 12 (w .start)))
-        (sym (sym (three-needs (digits 10 (w .schedule) && digits 12 (w .start)) (monthsFit 13 w) (allAtMost 100 (w .rates)) Cause.Form Cause.Date Cause.Rate (Months m (m + 13))) ∙ rw k refl))
-    output-as (some F202) =
-        let m = monthAt (w .start) in
-        let k : m + 1 - m ≡ 1 = omega arith in
-        rw (and-true (digits 10 (w .schedule) && digits 12 (w .start)))
-        (sym (sym (three-needs (digits 10 (w .schedule) && digits 12 (w .start)) (monthsFit 1 w) (allAtMost 100 (w .rates)) Cause.Form Cause.Date Cause.Rate (Months m (m + 1))) ∙ rw k refl))
+    output-as (some F201) = months-output 13
+    output-as (some F202) = months-output 1
     output-as (some F203) =
-        three-needs (formFits (w .schedule) (w .start) (w .next) (w .rates)) (updateDated (w .start) (w .next) (length (w .rates))) (allAtMost 100 (w .rates)) Cause.Form Cause.Date Cause.Rate Update
+        let dates = updateDated (w .start) (w .next) (length (w .rates)) in
+        three-needs (formFits (w .schedule) (w .start) (w .next) (w .rates)) dates (allAtMost 100 (w .rates)) Cause.Form Cause.Date Cause.Rate Update
     output-as (some F301) = refl
 
     pub output-is : writeBody w room ≡ outputOf w room (planOf w)
     unfolding writeBody planOf
     output-is =
         let o = formatOf (w .format) in
-        rw (output-as o, one-need (flagFits w) Cause.Range (planAs w o)) (one-need (plantId (w .plant)) Cause.PlantId (needed (flagFits w) Cause.Range (planAs w o)))
+        let p = planAs w o in
+        rw (output-as o, one-need (flagFits w) Cause.Range p) (one-need (plantId (w .plant)) Cause.PlantId (needed (flagFits w) Cause.Range p))

@@ -1,10 +1,15 @@
 -- `writer::write_body` meets its contract. Each plan has a law on the output. Assumes nothing.
-use mathlib.Core.Path.{_∙_, sym, ap}
+use Prim.Native.Nat.{ℕ}
+use mathlib.Core.Path.{_≡_, _∙_, refl, sym}
+use mathlib.Core.List.{List}
 use native.Mathlib.Omega.{arith}
 use denote.Ref.{now}
 use lib.ListN.{length}
 use Rattle.rules.specs.Writer.{Fields, Output, writtenOf, bufferAfter}
+use Rattle.rules.specs.declared.Written.{Written}
 use Rattle.writer.specs.Fields.{fieldsOf}
+use Rattle.writer.specs.Plan.{planOf}
+use Rattle.writer.specs.declared.plan.Plan.{Plan}
 use Rattle.writer.proofs.Plans.{plan-months, plan-update, plan-digit}
 use Rattle.writer.proofs.Outputs.{months-output, update-output, refused-output}
 use borrow.Author.Needs.{needs}
@@ -16,6 +21,21 @@ fields c =
     let a = c .args in
     fieldsOf (a .format) (now (a .plant)) (now (a .schedule)) (now (a .start)) (now (a .next)) (now (a .rates)) (a .flag)
 
+-- what was decided
+abbrev start : tie.After-decide → tie.Start
+start c = c .before .before .before .before .before .before .before
+
+abbrev room : tie.After-decide → ℕ
+room c = length (now (start c .args .out))
+
+decision : (c : tie.After-decide) (p : Plan) → c .decide .result ≡ p → planOf (fields (start c)) ≡ p
+decision c p e = sym (c .decide .ensures) ∙ e
+
+-- an answer and a buffer that are right for an output are right for an equal one
+same-output : (before : List ℕ) {o p : Output} {after : List ℕ} {r : Written} → o ≡ p → (r ≡ writtenOf p) × (after ≡ bufferAfter p before)
+    → (r ≡ writtenOf o) × (after ≡ bufferAfter o before)
+same-output before e h = rw e h
+
 decide-requires : tie.Need-decide-requires
 decide-requires c κs = search needs
 
@@ -23,17 +43,16 @@ enum-known-decided : tie.Need-enum-known-decided
 enum-known-decided c = search needs
 
 write-months-requires : tie.Need-write-months-requires
-write-months-requires c κs =
-    plan-months (fields (c .before .before .before .before .before .before .before .before .before .before .before)) _ _ (sym (c .before .before .before .before .decide .ensures) ∙ c .before .before .decided .given .1)
+write-months-requires c κs = let d = c .before .before .before .before in plan-months (fields (start d)) _ _ (decision d _ (c .before .before .decided .given .1))
 
 enum-told : tie.Need-enum-told
 enum-told c = search needs
 
 cast-write-update : tie.Need-cast-write-update
-cast-write-update c = omega (arith, plan-digit (fields (c .before .before .before .before .before .before .before .before .before)) (sym (c .before .before .decide .ensures) ∙ c .enum-told .given .1))
+cast-write-update c = let d = c .before .before in omega (arith, plan-digit (fields (start d)) (decision d _ (c .enum-told .given .1)))
 
 write-update-requires : tie.Need-write-update-requires
-write-update-requires c κs = plan-update (fields (c .before .before .before .before .before .before .before .before .before .before)) (sym (c .before .before .before .decide .ensures) ∙ c .before .enum-told .given .1)
+write-update-requires c κs = let d = c .before .before .before in plan-update (fields (start d)) (decision d _ (c .before .enum-told .given .1))
 
 enum-known-decided-2 : tie.Need-enum-known-decided-2
 enum-known-decided-2 c = search needs
@@ -43,26 +62,21 @@ same-length c = search needs
 
 returns : tie.Need-returns
 returns c =
-    let s = c .before .before .before .before .before .before .before .before .before .before .before .before .before .before in
-    let e = months-output (fields s) (length (now (s .args .out))) (sym (c .before .before .before .before .before .before .before .decide .ensures) ∙ c .before .before .before .before .before .decided .given .1) in
-    let r = c .before .before .write-months .ensures in
-    (r .0 ∙ sym (ap writtenOf e), r .1 ∙ sym (ap (λ (o : Output). bufferAfter o (now (s .args .out))) e))
+    let d = c .before .before .before .before .before .before .before in
+    same-output (now (start d .args .out)) (months-output (fields (start d)) (room d) (decision d _ (c .before .before .before .before .before .decided .given .1))) (c .before .before .write-months .ensures)
 
 same-length-2 : tie.Need-same-length-2
 same-length-2 c = search needs
 
 returns-2 : tie.Need-returns-2
 returns-2 c =
-    let s = c .before .before .before .before .before .before .before .before .before .before .before .before .before in
-    let e = update-output (fields s) (length (now (s .args .out))) (sym (c .before .before .before .before .before .before .decide .ensures) ∙ c .before .before .before .before .enum-told .given .1) in
-    let r = c .before .before .write-update .ensures in
-    (r .0 ∙ sym (ap writtenOf e), r .1 ∙ sym (ap (λ (o : Output). bufferAfter o (now (s .args .out))) e))
+    let d = c .before .before .before .before .before .before in
+    same-output (now (start d .args .out)) (update-output (fields (start d)) (room d) (decision d _ (c .before .before .before .before .enum-told .given .1))) (c .before .before .write-update .ensures)
 
 returns-3 : tie.Need-returns-3
 returns-3 c =
-    let s = c .before .before .before .before .before .before .before .before .before .before in
-    let e = refused-output (fields s) (length (now (s .args .out))) (sym (c .before .before .before .decide .ensures) ∙ c .before .decided2 .given .1) in
-    (sym (ap writtenOf e), sym (ap (λ (o : Output). bufferAfter o (now (s .args .out))) e))
+    let d = c .before .before .before in
+    same-output (now (start d .args .out)) (refused-output (fields (start d)) (room d) (decision d _ (c .before .decided2 .given .1))) (refl, refl)
 
 pub write-body-spec : {M : Type 1} → statement M
 write-body-spec =

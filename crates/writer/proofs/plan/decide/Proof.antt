@@ -16,46 +16,55 @@ fields c =
     let a = c .args in
     fieldsOf (a .format) (now (a .plant)) (now (a .schedule)) (now (a .start)) (now (a .next)) (now (a .rates)) (a .flag)
 
-is-plant : (c : tie.Else1) → plantId (fields (c .before .before .before .before .before .before .before) .plant) ≡ true
+-- after the test of the plant's ID
+abbrev given : tie.Else1 → Fields
+given c = fields (c .before .before .before .before .before .before .before)
+
+is-plant : (c : tie.Else1) → plantId (given c .plant) ≡ true
 is-plant c = sym (c .before .is-plant-id .ensures) ∙ not-false _ (c .if1 .left)
 
-fits-flag : (c : tie.Else2) → flagFits (fields (c .before .before .before .before .before .before .before .before)) ≡ true
-fits-flag c = not-false (flagFits (fields (c .before .before .before .before .before .before .before .before))) (c .if2 .left)
+-- after the test of the flag
+fits-flag : (c : tie.Else2) → flagFits (given (c .before)) ≡ true
+fits-flag c = not-false (flagFits (given (c .before))) (c .if2 .left)
 
 is-plant-id-requires : tie.Need-is-plant-id-requires
 is-plant-id-requires c κs = search needs
 
 returns : tie.Need-returns
-returns c = plan-id (fields (c .before .before .before .before .before .before .before)) (sym (c .before .is-plant-id .ensures) ∙ not-true _ (c .if1 .taken))
+returns c = plan-id _ (sym (c .before .is-plant-id .ensures) ∙ not-true _ (c .if1 .taken))
 
 returns-2 : tie.Need-returns-2
-returns-2 c = plan-flag (fields (c .before .before .before .before .before .before .before .before)) (is-plant (c .before)) (not-true (flagFits (fields (c .before .before .before .before .before .before .before .before))) (c .if2 .taken))
+returns-2 c = plan-flag _ (is-plant (c .before)) (not-true (flagFits (given (c .before))) (c .if2 .taken))
 
 plan-months-requires : tie.Need-plan-months-requires
 plan-months-requires c κs = search needs
 
 returns-3 : tie.Need-returns-3
-returns-3 c = c .plan-months .ensures ∙ plan-yearly (fields (c .before .before .before .before .before .before .before .before .before .before)) (is-plant (c .before .before .before)) (fits-flag (c .before .before)) (c .before .if3 .taken)
+returns-3 c =
+    let e = c .before .before in
+    c .plan-months .ensures ∙ plan-yearly _ (is-plant (e .before)) (fits-flag e) (c .before .if3 .taken)
 
 plan-months-requires-2 : tie.Need-plan-months-requires-2
 plan-months-requires-2 c κs = search needs
 
 returns-4 : tie.Need-returns-4
 returns-4 c =
-    c .plan-months2 .ensures
-    ∙ plan-monthly (fields (c .before .before .before .before .before .before .before .before .before .before .before)) (is-plant (c .before .before .before .before)) (fits-flag (c .before .before .before)) (c .before .before .if3 .left) (c .before .if4 .taken)
+    let e = c .before .before .before in
+    c .plan-months2 .ensures ∙ plan-monthly _ (is-plant (e .before)) (fits-flag e) (c .before .before .if3 .left) (c .before .if4 .taken)
 
 plan-update-requires : tie.Need-plan-update-requires
 plan-update-requires c κs = search needs
 
 returns-5 : tie.Need-returns-5
 returns-5 c =
+    let e = c .before .before .before .before in
     c .plan-update .ensures
-    ∙ plan-updating (fields (c .before .before .before .before .before .before .before .before .before .before .before .before)) (is-plant (c .before .before .before .before .before)) (fits-flag (c .before .before .before .before)) (c .before .before .before .if3 .left) (c .before .before .if4 .left) (c .before .if5 .taken)
+    ∙ plan-updating _ (is-plant (e .before)) (fits-flag e) (c .before .before .before .if3 .left) (c .before .before .if4 .left) (c .before .if5 .taken)
 
 returns-6 : tie.Need-returns-6
 returns-6 c =
-    plan-name (fields (c .before .before .before .before .before .before .before .before .before .before .before)) (is-plant (c .before .before .before .before)) (fits-flag (c .before .before .before)) (c .before .before .if3 .left) (c .before .if4 .left) (c .if5 .left)
+    let e = c .before .before .before in
+    plan-name _ (is-plant (e .before)) (fits-flag e) (c .before .before .if3 .left) (c .before .if4 .left) (c .if5 .left)
 
 pub decide-spec : {M : Type 1} → statement M
 decide-spec =

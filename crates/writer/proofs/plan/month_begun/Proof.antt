@@ -1,6 +1,11 @@
 -- `writer::plan::month_begun` meets its contract. Each return has a law on the start. Assumes nothing.
 use Prim.Native.Nat.{_+_, _*_}
-use mathlib.Core.Path.{_∙_, sym}
+use mathlib.Core.Path.{_≡_, _∙_, sym}
+use mathlib.Core.Bool.{true}
+use mathlib.Core.Option.{some}
+use lib.ListN.{length}
+use Rattle.rules.specs.Calendar.{startSlot}
+use Rattle.rules.specs.File.{monthBegins}
 use denote.Ref.{now}
 use native.Mathlib.Omega.{arith}
 use borrow.Author.Tests.{not-true, not-false}
@@ -10,12 +15,27 @@ use borrow.Author.Needs.{needs}
 use Rattle.writer.proofs.plan.month_begun.Statement.{statement}
 use Rattle.writer.proofs.plan.month_begun.Tie as tie
 
+-- the places before: the test of the day, and the start
+abbrev tested : tie.After-start-slot → tie.Else1
+tested c = c .before
+
+abbrev entry : tie.Else1 → tie.Start
+entry c = c .before .before .before .before .before
+
+long : (c : tie.Start) → length (now (c .args .start)) ≡ 12
+long c = digits-length 12 (now (c .args .start)) (c .pre)
+
+begins : (c : tie.Else1) → monthBegins (now (entry c .args .start)) ≡ true
+begins c = sym (c .before .same .ensures) ∙ not-false _ (c .if1 .left)
+
+-- the slot that begins there
+slot-read : (c : tie.After-enum-told) → startSlot (now (entry (tested (c .before .before)) .args .start)) ≡ some (c .enum-told .given .0 .0)
+slot-read c = at-some _ _ (sym (c .enum-told .given .1) ∙ c .before .before .start-slot .ensures)
+
 -- the year and the month that were read
 month-read : (c : tie.After-pair3) → MonthFacts (100 * c .before .before .pair .result + c .before .pair2 .result) (c .pair3 .result)
 month-read c =
-    begun-read (now (c .before .before .before .before .before .before .before .before .before .before .before .args .start)) _
-    (at-some _ _ (sym (c .before .before .before .enum-told .given .1) ∙ c .before .before .before .before .before .start-slot .ensures))
-    (c .before .before .pair .ensures .0) (c .before .pair2 .ensures .0) (c .pair3 .ensures .0)
+    begun-read _ _ (slot-read (c .before .before .before)) (c .before .before .pair .ensures .0) (c .before .pair2 .ensures .0) (c .pair3 .ensures .0)
 
 sub-same : tie.Need-sub-same
 sub-same c = search needs
@@ -24,9 +44,7 @@ part-same-start : tie.Need-part-same-start
 part-same-start c = search needs
 
 part-same-end : tie.Need-part-same-end
-part-same-end c =
-    let l = digits-length 12 (now (c .before .args .start)) (c .before .pre) in
-    search needs
+part-same-end c = let l = long (c .before) in search needs
 
 slice-aggregate-same : tie.Need-slice-aggregate-same
 slice-aggregate-same c = search needs
@@ -50,24 +68,23 @@ enum-told-2 c = search needs
 
 returns-2 : tie.Need-returns-2
 returns-2 c =
-    let a = c .before .before .before .before .before .before .before .before in
-    begun-missing (now (a .args .start)) (a .pre) (sym (c .before .before .before .before .same .ensures) ∙ not-false _ (c .before .before .before .if1 .left))
-    (missing-none _ (sym (c .enum-told2 .given .1) ∙ c .before .before .start-slot .ensures))
+    let s = c .before .before in
+    begun-missing _ (entry (tested s) .pre) (begins (tested s)) (missing-none _ (sym (c .enum-told2 .given .1) ∙ s .start-slot .ensures))
 
 pair-requires : tie.Need-pair-requires
-pair-requires c κs = omega (arith, digits-length 12 (now (c .before .before .before .before .before .before .before .before .args .start)) (c .before .before .before .before .before .before .before .before .pre))
+pair-requires c κs = omega (arith, long (entry (tested (c .before .before))))
 
 mul-year : tie.Need-mul-year
 mul-year c = search needs
 
 pair-requires-2 : tie.Need-pair-requires-2
-pair-requires-2 c κs = omega (arith, digits-length 12 (now (c .before .before .before .before .before .before .before .before .before .args .start)) (c .before .before .before .before .before .before .before .before .before .pre))
+pair-requires-2 c κs = omega (arith, long (entry (tested (c .before .before .before))))
 
 add-year : tie.Need-add-year
 add-year c = search needs
 
 pair-requires-3 : tie.Need-pair-requires-3
-pair-requires-3 c κs = omega (arith, digits-length 12 (now (c .before .before .before .before .before .before .before .before .before .before .args .start)) (c .before .before .before .before .before .before .before .before .before .before .pre))
+pair-requires-3 c κs = omega (arith, long (entry (tested (c .before .before .before .before))))
 
 sub-t14 : tie.Need-sub-t14
 sub-t14 c = let f = month-read c in omega (arith, f .from, f .until, f .first, f .last)
@@ -86,9 +103,9 @@ cast-t18 c = let f = month-read c in omega (arith, f .from, f .until, f .first, 
 
 returns-3 : tie.Need-returns-3
 returns-3 c =
-    let a = c .before .before .before .before .before .before .before .before .before .before .before in
-    begun-month (now (a .args .start)) (a .pre) (sym (c .before .before .before .before .before .before .before .same .ensures) ∙ not-false _ (c .before .before .before .before .before .before .if1 .left)) _
-    (at-some _ _ (sym (c .before .before .before .enum-told .given .1) ∙ c .before .before .before .before .before .start-slot .ensures)) (c .before .before .pair .ensures .0) (c .before .pair2 .ensures .0) (c .pair3 .ensures .0)
+    let e = c .before .before .before in
+    let s = tested (e .before .before) in
+    begun-month _ (entry s .pre) (begins s) _ (slot-read e) (c .before .before .pair .ensures .0) (c .before .pair2 .ensures .0) (c .pair3 .ensures .0)
 
 pub month-begun-spec : {M : Type 1} → statement M
 month-begun-spec =

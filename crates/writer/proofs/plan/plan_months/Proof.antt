@@ -27,20 +27,33 @@ form-tested : (c : tie.After-is-digits2) (t : Bool) → flags c ≡ t
     (digits 10 (now (a .schedule)) && digits 12 (now (a .start))) ≡ t
 form-tested c t e = cc (c .is-digits2 .ensures, c .before .is-digits .ensures)
 
+formed : (c : tie.Else1) → let a = c .before .before .before .before .before .before .args in
+    (digits 10 (now (a .schedule)) && digits 12 (now (a .start))) ≡ true
+formed c = form-tested (c .before) true (not-false (flags (c .before)) (c .if1 .left))
+
 -- the month that the start begins
-begun : (c : tie.After-first)
-    → Month (c .first .given .0 .0) ≡ monthBegun (now (c .before .before .before .before .before .before .before .before .before .args .start))
+begun : (c : tie.After-first) → Month (c .first .given .0 .0) ≡ monthBegun (now (c .before .before .before .before .before .before .before .before .before .args .start))
 begun c = sym (c .first .given .1) ∙ c .before .before .month-begun .ensures
 
--- the test of the length
+-- the places before the test of the length
+abbrev month : tie.After-first-slot2 → tie.After-first
+month c = c .before .before .before
+
+abbrev entry : tie.After-first-slot2 → tie.Else1
+entry c = month c .before .before .before
+
+abbrev start : tie.After-first-slot2 → tie.Start
+start c = entry c .before .before .before .before .before .before
+
+-- and the test
 abbrev lengths : tie.After-first-slot2 → Bool
 lengths c =
-    leb (c .before .before .before .first .given .0 .0 + c .before .before .before .before .before .before .before .before .before .before .before .before .args .count) 1200
-    && eqb (length (now (c .before .before .before .before .before .before .before .before .before .before .before .before .args .rates))) (c .before .first-slot .result - c .first-slot2 .result)
+    leb (month c .first .given .0 .0 + start c .args .count) 1200
+    && eqb (length (now (start c .args .rates))) (c .before .first-slot .result - c .first-slot2 .result)
 
 length-tested : (c : tie.After-first-slot2) (t : Bool) → lengths c ≡ t
-    → let a = c .before .before .before .before .before .before .before .before .before .before .before .before .args in
-    lengthFits (a .count) (now (a .schedule)) (now (a .start)) (now (a .rates)) (c .before .before .before .first .given .0 .0) ≡ t
+    → let a = start c .args in
+    lengthFits (a .count) (now (a .schedule)) (now (a .start)) (now (a .rates)) (month c .first .given .0 .0) ≡ t
 length-tested c t e = cc (c .first-slot2 .ensures, c .before .first-slot .ensures)
 
 is-digits-requires : tie.Need-is-digits-requires
@@ -55,7 +68,7 @@ returns c = months-form _ _ _ _ (form-tested (c .before) false (not-true (flags 
 month-begun-requires : tie.Need-month-begun-requires
 month-begun-requires c κs =
     let a = c .before .before .before .before .before .before .args in
-    both (digits 10 (now (a .schedule))) (digits 12 (now (a .start))) (form-tested (c .before) true (not-false (flags (c .before)) (c .if1 .left))) .1
+    both (digits 10 (now (a .schedule))) (digits 12 (now (a .start))) (formed c) .1
 
 enum-known-first : tie.Need-enum-known-first
 enum-known-first c = search needs
@@ -64,14 +77,15 @@ enum-told : tie.Need-enum-told
 enum-told c = search needs
 
 returns-2 : tie.Need-returns-2
-returns-2 c =
-    months-unbegun _ _ _ _ (form-tested (c .before .before .before .before) true (not-false (flags (c .before .before .before .before)) (c .before .before .before .if1 .left))) (sym (c .enum-told .given .1) ∙ c .before .before .month-begun .ensures)
+returns-2 c = months-unbegun _ _ _ _ (formed (c .before .before .before)) (sym (c .enum-told .given .1) ∙ c .before .before .month-begun .ensures)
 
 add-end : tie.Need-add-end
 add-end c =
-    let s = now (c .before .before .before .before .before .before .before .before .before .before .args .start) in
-    let d = both (digits 10 (now (c .before .before .before .before .before .before .before .before .before .before .args .schedule))) (digits 12 s) (form-tested (c .before .before .before .before .before) true (not-false (flags (c .before .before .before .before .before)) (c .before .before .before .before .if1 .left))) .1 in
-    omega (arith, begun-few s _ (digits-length 12 s d) (begun (c .before)), c .before .before .before .before .before .before .before .before .before .before .pre)
+    let f = c .before .before .before .before in
+    let s = f .before .before .before .before .before .before in
+    let start = now (s .args .start) in
+    let d = both (digits 10 (now (s .args .schedule))) (digits 12 start) (formed f) .1 in
+    omega (arith, begun-few start _ (digits-length 12 start d) (begun (c .before)), s .pre)
 
 first-slot-requires : tie.Need-first-slot-requires
 first-slot-requires c κs = search needs
@@ -81,27 +95,31 @@ first-slot-requires-2 c κs = search needs
 
 sub-slots : tie.Need-sub-slots
 sub-slots c =
-    let s = c .before .before .before in
-    omega (arith, first-slot-monotone (s .first .given .0 .0) (s .first .given .0 .0 + c .before .before .before .before .before .before .before .before .before .before .before .before .args .count) (omega arith), c .first-slot2 .ensures, c .before .first-slot .ensures)
+    let first = month c .first .given .0 .0 in
+    let count = start c .args .count in
+    omega (arith, first-slot-monotone first (first + count) (omega arith), c .first-slot2 .ensures, c .before .first-slot .ensures)
 
 cast-if2 : tie.Need-cast-if2
 cast-if2 c = search needs
 
 returns-3 : tie.Need-returns-3
 returns-3 c =
-    months-length _ _ _ _ (form-tested (c .before .before .before .before .before .before .before .before) true (not-false (flags (c .before .before .before .before .before .before .before .before)) (c .before .before .before .before .before .before .before .if1 .left))) _ (begun (c .before .before .before .before)) (length-tested (c .before) false (not-true (lengths (c .before)) (c .if2 .taken)))
+    let f = c .before in
+    months-length _ _ _ _ (formed (entry f)) _ (begun (month f)) (length-tested f false (not-true (lengths f) (c .if2 .taken)))
 
 all-at-most-requires : tie.Need-all-at-most-requires
 all-at-most-requires c κs = search needs
 
 returns-4 : tie.Need-returns-4
 returns-4 c =
-    months-rate _ _ _ _ (form-tested (c .before .before .before .before .before .before .before .before .before .before) true (not-false (flags (c .before .before .before .before .before .before .before .before .before .before)) (c .before .before .before .before .before .before .before .before .before .if1 .left))) _ (begun (c .before .before .before .before .before .before)) (length-tested (c .before .before .before) true (not-false (lengths (c .before .before .before)) (c .before .before .if2 .left)))
+    let f = c .before .before .before in
+    months-rate _ _ _ _ (formed (entry f)) _ (begun (month f)) (length-tested f true (not-false (lengths f) (c .before .before .if2 .left)))
     (sym (c .before .all-at-most .ensures) ∙ not-true _ (c .if3 .taken))
 
 returns-5 : tie.Need-returns-5
 returns-5 c =
-    months-plan _ _ _ _ (form-tested (c .before .before .before .before .before .before .before .before .before .before) true (not-false (flags (c .before .before .before .before .before .before .before .before .before .before)) (c .before .before .before .before .before .before .before .before .before .if1 .left))) _ (begun (c .before .before .before .before .before .before)) (length-tested (c .before .before .before) true (not-false (lengths (c .before .before .before)) (c .before .before .if2 .left)))
+    let f = c .before .before .before in
+    months-plan _ _ _ _ (formed (entry f)) _ (begun (month f)) (length-tested f true (not-false (lengths f) (c .before .before .if2 .left)))
     (sym (c .before .all-at-most .ensures) ∙ not-false _ (c .if3 .left))
 
 pub plan-months-spec : {M : Type 1} → statement M

@@ -21,6 +21,11 @@ form-tested : (c : tie.After-is-digits3) (t : Bool) → flags c ≡ t
     formFits (now (a .schedule)) (now (a .start)) (now (a .next)) (now (a .rates)) ≡ t
 form-tested c t e = cc (c .is-digits3 .ensures, c .before .is-digits2 .ensures, c .before .before .is-digits .ensures)
 
+formed : (c : tie.Else1)
+    → let a = c .before .before .before .before .before .before .before .before .args in
+    formFits (now (a .schedule)) (now (a .start)) (now (a .next)) (now (a .rates)) ≡ true
+formed c = form-tested (c .before) true (not-false (flags (c .before)) (c .if1 .left))
+
 is-digits-requires : tie.Need-is-digits-requires
 is-digits-requires c κs = search needs
 
@@ -36,26 +41,24 @@ returns c = update-form _ _ _ _ (form-tested (c .before) false (not-true (flags 
 is-dated-requires : tie.Need-is-dated-requires
 is-dated-requires c κs =
     let a = c .before .before .before .before .before .before .before .before .args in
-    update-next (now (a .schedule)) (now (a .start)) (now (a .next)) (now (a .rates)) (form-tested (c .before) true (not-false (flags (c .before)) (c .if1 .left)))
+    update-next (now (a .schedule)) (now (a .start)) (now (a .next)) (now (a .rates)) (formed c)
 
 returns-2 : tie.Need-returns-2
-returns-2 c =
-    let e = c .before .before .before in
-    update-date _ _ _ _ (form-tested e true (not-false (flags e) (c .before .before .if1 .left))) (sym (c .before .is-dated .ensures) ∙ not-true _ (c .if2 .taken))
+returns-2 c = update-date _ _ _ _ (formed (c .before .before)) (sym (c .before .is-dated .ensures) ∙ not-true _ (c .if2 .taken))
 
 all-at-most-requires : tie.Need-all-at-most-requires
 all-at-most-requires c κs = search needs
 
 returns-3 : tie.Need-returns-3
 returns-3 c =
-    let e = c .before .before .before .before .before in
-    update-rate _ _ _ _ (form-tested e true (not-false (flags e) (c .before .before .before .before .if1 .left))) (sym (c .before .before .before .is-dated .ensures) ∙ not-false _ (c .before .before .if2 .left))
+    let d = c .before .before in
+    update-rate _ _ _ _ (formed (d .before .before)) (sym (d .before .is-dated .ensures) ∙ not-false _ (d .if2 .left))
     (sym (c .before .all-at-most .ensures) ∙ not-true _ (c .if3 .taken))
 
 returns-4 : tie.Need-returns-4
 returns-4 c =
-    let e = c .before .before .before .before .before in
-    update-plan _ _ _ _ (form-tested e true (not-false (flags e) (c .before .before .before .before .if1 .left))) (sym (c .before .before .before .is-dated .ensures) ∙ not-false _ (c .before .before .if2 .left))
+    let d = c .before .before in
+    update-plan _ _ _ _ (formed (d .before .before)) (sym (d .before .is-dated .ensures) ∙ not-false _ (d .if2 .left))
     (sym (c .before .all-at-most .ensures) ∙ not-false _ (c .if3 .left))
 
 pub plan-update-spec : {M : Type 1} → statement M

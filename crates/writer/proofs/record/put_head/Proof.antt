@@ -24,17 +24,24 @@ put-number-requires c κs = search needs
 
 put-requires-4 : tie.Need-put-requires-4
 put-requires-4 c κs =
-    let rates = now (c .before .before .before .before .before .before .before .before .before .before .before .before .before .before .before .before .before .before .before .before .before .before .args .rates) in
-    omega (arith, length-decimal 5 (length rates), c .before .before .before .put-number, c .before .before .before .before .before .before .before .put3, c .before .before .before .before .before .before .before .before .before .before .before .put2, c .before .before .before .before .before .before .before .before .before .before .before .before .before .before .before .put, c .before .before .before .before .before .before .before .before .before .before .before .before .before .before .before .before .before .before .before .before .before .before .pre)
+    let n = c .before .before .before in
+    let p₃ = n .before .before .before .before in
+    let p₂ = p₃ .before .before .before .before in
+    let p₁ = p₂ .before .before .before .before in
+    let s = p₁ .before .before .before .before .before .before .before in
+    omega (arith, length-decimal 5 (length (now (s .args .rates))), n .put-number, p₃ .put3, p₂ .put2, p₁ .put, s .pre)
 
 same-length : tie.Need-same-length
 same-length c = search needs
 
 returns : tie.Need-returns
 returns c =
-    next-to (c .before .before .before .before .before .before .before .before .before .before .before .before .before .before .before .before .before .before .put .ensures)
-    (next-to (c .before .before .before .before .before .before .before .before .before .before .before .before .before .before .put2 .ensures)
-    (next-to (c .before .before .before .before .before .before .before .before .before .before .put3 .ensures) (next-to (c .before .before .before .before .before .before .put-number .ensures) (c .before .before .put4 .ensures))))
+    let n = c .before .before .before .before .before .before in
+    let p₃ = n .before .before .before .before in
+    let p₂ = p₃ .before .before .before .before in
+    let p₁ = p₂ .before .before .before .before in
+    next-to (p₁ .put .ensures)
+    (next-to (p₂ .put2 .ensures) (next-to (p₃ .put3 .ensures) (next-to (n .put-number .ensures) (c .before .before .put4 .ensures))))
 
 pub put-head-spec : {M : Type 1} → statement M
 put-head-spec =

@@ -27,21 +27,23 @@ put-head-requires c κs = search needs
 
 put-number-requires : tie.Need-put-number-requires
 put-number-requires c κs =
-    let a = c .before .before .before .before .before .before .before .before .before .before .before .before .before .args in
-    let s = c .before .before .before .before .before .before .before .before .month-start .result in
-    let l = ap length (c .before .before .before .before .before .before .before .before .month-start .ensures) in
-    omega (arith, head-length (now (a .schedule)) (now (a .plant)) s (now (a .rates)), l, start-length (a .month), c .before .before .before .put-head, c .before .before .before .before .before .before .before .before .before .before .before .before .before .pre)
+    let h = c .before .before .before in
+    let start = h .before .before .before .before .before .month-start in
+    let s = h .before .before .before .before .before .before .before .before .before .before in
+    let a = s .args in
+    omega (arith, head-length (now (a .schedule)) (now (a .plant)) (start .result) (now (a .rates)), ap length (start .ensures), start-length (a .month), h .put-head, s .pre)
 
 same-length : tie.Need-same-length
 same-length c = search needs
 
 returns : tie.Need-returns
 returns c =
-    let a = c .before .before .before .before .before .before .before .before .before .before .before .before .before .before .before .before .args in
-    let s = c .before .before .before .before .before .before .before .before .before .before .before .month-start in
-    let sum = c .before .before .before .before .before .before .before .before .before .checksum in
-    put-same (month-bytes (now (a .schedule)) (now (a .plant)) (s .result) (now (a .rates)) (a .month) (sum .result) (s .ensures) (sum .ensures))
-    (next-to (c .before .before .before .before .before .before .put-head .ensures) (c .before .before .put-number .ensures))
+    let h = c .before .before .before .before .before .before in
+    let sum = h .before .before .before .checksum in
+    let start = h .before .before .before .before .before .month-start in
+    let a = h .before .before .before .before .before .before .before .before .before .before .args in
+    put-same (month-bytes (now (a .schedule)) (now (a .plant)) (start .result) (now (a .rates)) (a .month) (sum .result) (start .ensures) (sum .ensures))
+    (next-to (h .put-head .ensures) (c .before .before .put-number .ensures))
 
 pub put-month-spec : {M : Type 1} → statement M
 put-month-spec =

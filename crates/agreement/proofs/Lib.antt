@@ -1,0 +1,17 @@
+pub mod Bools
+pub mod Counts
+pub mod Bytes
+pub mod Given
+pub mod View
+pub mod Put
+pub mod Pieces
+pub mod Runs
+pub mod Files
+pub mod Records
+pub mod Steps
+pub mod Answers
+pub mod Blocks
+pub mod Months
+pub mod Taken
+pub mod Untouched
+pub mod Laws

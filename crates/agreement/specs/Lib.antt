@@ -1,0 +1,4 @@
+pub mod Agrees
+pub mod Run
+pub mod Untouched
+pub mod Laws

@@ -1,0 +1,109 @@
+-- `putting::put_month` meets its contract. Assumes nothing.
+use Prim.Native.Nat.{suc, _≤_, _<_, _+_, _-_, min, max}
+use mathlib.Core.Path.{_≡_, sym, ap, _∙_}
+use native.Mathlib.Numerals.{add-one}
+use native.Mathlib.Omega.{arith}
+use denote.Ref.{now}
+use lib.ListN.{length}
+use borrow.Author.Needs.{needs}
+use Rattle.rules.specs.Calendar.{firstSlot}
+use Rattle.schedule.specs.Stored.{putPiece}
+use Rattle.schedule.specs.Rates.{storedOf}
+use Rattle.schedule.proofs.PutLaws.{piece-is, piece-fits, piece-none}
+use Rattle.schedule.proofs.putting.put_month.Statement.{statement}
+use Rattle.schedule.proofs.putting.put_month.Tie as tie
+
+abbrev start : tie.After-lesser → tie.Start
+start c = c .before .before .before .before .before .before
+
+-- the month's first slot after this one ends the part
+high-is : (c : tie.After-lesser) → c .lesser .result ≡ min (start c .args .slot + length (now (start c .args .rates))) (firstSlot (suc (start c .args .month)))
+high-is c = c .lesser .ensures ∙ ap (min (start c .args .slot + length (now (start c .args .rates)))) (c .before .first-slot2 .ensures ∙ ap firstSlot (add-one (start c .args .month)))
+
+first-slot-requires : tie.Need-first-slot-requires
+first-slot-requires c κs = search needs
+
+cast-first : tie.Need-cast-first
+cast-first c = search needs
+
+greater-requires : tie.Need-greater-requires
+greater-requires c κs = search needs
+
+add-lesser : tie.Need-add-lesser
+add-lesser c = search needs
+
+add-first-slot : tie.Need-add-first-slot
+add-first-slot c = search needs
+
+first-slot-requires-2 : tie.Need-first-slot-requires-2
+first-slot-requires-2 c κs = search needs
+
+cast-lesser : tie.Need-cast-lesser
+cast-lesser c = search needs
+
+lesser-requires : tie.Need-lesser-requires
+lesser-requires c κs = search needs
+
+sub-a : tie.Need-sub-a
+sub-a c = search needs
+
+sub-e : tie.Need-sub-e
+sub-e c = search needs
+
+sub-put-piece : tie.Need-sub-put-piece
+sub-put-piece c = search needs
+
+sub-put-piece-2 : tie.Need-sub-put-piece-2
+sub-put-piece-2 c = search needs
+
+part-put-piece-start : tie.Need-part-put-piece-start
+part-put-piece-start c = search needs
+
+part-put-piece-end : tie.Need-part-put-piece-end
+part-put-piece-end c = search needs
+
+put-piece-requires : tie.Need-put-piece-requires
+put-piece-requires c κs =
+    let k = c .before .before .before in
+    let a = start k .args in
+    (start k .pre .0, piece-fits (a .month) (a .slot) _ _ _ (now (a .rates)) (k .before .before .before .first-slot .ensures) (k .before .before .greater .ensures) (high-is k) (c .before .before .if1 .taken))
+
+same-length : tie.Need-same-length
+same-length c = search needs
+
+returns : tie.Need-returns
+returns c =
+    let k = c .before .before .before .before .before .before in
+    let a = start k .args in
+    c .before .before .put-piece .ensures
+    ∙ ap (λ q. putPiece (a .floor) q (storedOf (a .pool) (now (a .store))))
+    (sym (piece-is (a .month) (a .slot) _ _ _ (now (a .rates)) (k .before .before .before .first-slot .ensures) (k .before .before .greater .ensures) (high-is k) (c .before .before .before .before .before .if1 .taken)))
+
+returns-2 : tie.Need-returns-2
+returns-2 c =
+    let k = c .before in
+    let a = start k .args in
+    piece-none (a .month) (a .slot) _ _ _ (now (a .rates)) (k .before .before .before .first-slot .ensures) (k .before .before .greater .ensures) (high-is k) (c .if1 .left) (a .floor) (storedOf (a .pool) (now (a .store)))
+
+pub put-month-spec : {M : Type 1} → statement M
+put-month-spec =
+    tie.close
+    (tie.spec
+    first-slot-requires
+    cast-first
+    greater-requires
+    add-lesser
+    add-first-slot
+    first-slot-requires-2
+    cast-lesser
+    lesser-requires
+    sub-a
+    sub-e
+    sub-put-piece
+    sub-put-piece-2
+    part-put-piece-start
+    part-put-piece-end
+    put-piece-requires
+    same-length
+    returns
+    returns-2)

@@ -1,0 +1,82 @@
+-- `putting::take_block` meets its contract. Assumes nothing.
+use Prim.Native.Nat.{ℕ, _≤_, _<_, _+_, _*_}
+use mathlib.Core.Path.{_≡_, sym, ap, _∙_}
+use native.Mathlib.Nat.{add-zero}
+use native.Mathlib.Omega.{arith}
+use denote.Ref.{now}
+use lib.ListN.{length}
+use lib.Seq.{sets}
+use borrow.Author.Needs.{needs}
+use Rattle.pool.specs.declared.Taken.{Taken}
+use Rattle.schedule.specs.Stored.{blank}
+use Rattle.schedule.proofs.Parts.{fill-part}
+use Rattle.schedule.proofs.PutLaws.{take-below, take-opens, take-none}
+use Rattle.schedule.proofs.putting.take_block.Statement.{statement}
+use Rattle.schedule.proofs.putting.take_block.Tie as tie
+
+take-requires : tie.Need-take-requires
+take-requires c κs = search needs
+
+enum-known-place : tie.Need-enum-known-place
+enum-known-place c = search needs
+
+below : (c : tie.After-known-told) → c .before .place .given .0 .0 < 16
+below c = take-below _ _ _ (sym (ap (λ (t : Taken). t .place) (c .before .before .before .take .ensures)) ∙ c .before .place .given .1)
+
+mul-at : tie.Need-mul-at
+mul-at c = omega (arith, below c)
+
+add-end : tie.Need-add-end
+add-end c = omega (arith, below c)
+
+sub-blank : tie.Need-sub-blank
+sub-blank c = search needs
+
+part-blank-start : tie.Need-part-blank-start
+part-blank-start c = search needs
+
+part-blank-end : tie.Need-part-blank-end
+part-blank-end c = omega (arith, below c)
+
+blank-requires : tie.Need-blank-requires
+blank-requires c κs = search needs
+
+enum-told : tie.Need-enum-told
+enum-told c = search needs
+
+same-length : tie.Need-same-length
+same-length c = search needs
+
+returns : tie.Need-returns
+returns c =
+    let a = c .before .before .before .before .before .before .before .before .before .before .args in
+    let t = c .before .before .before .before .before .before .before .before .take in
+    let p = c .before .before .before .before .before .before .place .given in
+    let b = p .0 .0 in
+    let room : b * 1488 + 1488 ≤ length (now (a .store)) = omega (arith, below (c .before .before .before .before .before)) in
+    take-opens (t .result) (a .pool) (a .month) (now (a .store)) (t .ensures) b _ (p .1)
+    (fill-part (now (a .store)) _ (b * 1488) 1488 255 room (c .before .before .before .blank .ensures)
+    ∙ ap (λ (i : ℕ). sets (now (a .store)) i blank) (sym (add-zero (b * 1488))))
+
+returns-2 : tie.Need-returns-2
+returns-2 c =
+    let a = c .before .before .before .before .before .args in
+    let t = c .before .before .before .take in
+    take-none (t .result) (a .pool) (a .month) (now (a .store)) (t .ensures) (c .before .enum-told .given .1)
+
+pub take-block-spec : {M : Type 1} → statement M
+take-block-spec =
+    tie.close
+    (tie.spec
+    take-requires
+    enum-known-place
+    mul-at
+    add-end
+    sub-blank
+    part-blank-start
+    part-blank-end
+    blank-requires
+    enum-told
+    same-length
+    returns
+    returns-2)

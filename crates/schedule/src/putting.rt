@@ -1,0 +1,147 @@
+// Putting the rates of consecutive slots into the blocks of their months, in the steps of `putRun`.
+ghost use mathlib.Core.Path.{_≡_};
+ghost use Prim.Native.Nat.{_+_, _^_, _≤_, _<_};
+ghost use lib.ListN.{length, replicate};
+ghost use Rattle.rules.specs.Store.{blockLength, storeLength, noRate};
+ghost use Rattle.schedule.specs.Stored.{openBy, openMonth, layPiece, putPiece, pieceIn, putRun};
+ghost use Rattle.schedule.specs.Rates.{storedOf, pieceOf, canPutCount};
+use crate::layout::BLOCK;
+use crate::layout::NO_RATE;
+use crate::layout::SLOTS;
+use crate::layout::STORE;
+use crate::numbers::greater;
+use crate::numbers::lesser;
+use pool::Found;
+use pool::Place;
+use pool::Pool;
+
+// Fills a whole slice with 255.
+fn blank(to: &mut [u8])
+    ensures { λ _. ⌜ now (to .exit) ≡ replicate (length (now (to .entry))) noRate ⌝ }
+{
+    let mut i = 0;
+    while i < to.len() {
+        to[i] = NO_RATE;
+        i += 1;
+    }
+}
+
+// Copies a whole slice.
+fn copy(to: &mut [u8], from: &[u8])
+    requires { ⌜ length (now to) ≡ length (now from) ⌝ }
+    ensures { λ _. ⌜ now (to .exit) ≡ now (from .entry) ⌝ }
+{
+    let mut i = 0;
+    while i < from.len() {
+        to[i] = from[i];
+        i += 1;
+    }
+}
+
+// 'A block newly taken is filled with 255 first'.
+fn take_block(pool: Pool, month: u16, store: &mut [u8]) -> Pool
+    requires { ⌜ length (now store) ≡ storeLength ⌝ }
+    ensures { λ r. ⌜ storedOf r (now (store .exit)) ≡ openBy Found.Nothing month (storedOf pool (now (store .entry))) ⌝ }
+{
+    let taken = pool.take(month);
+    let place = taken.place;
+    match place {
+        Place::In(b) => {
+            let at = b * BLOCK;
+            let end = at + BLOCK;
+            blank(&mut store[at..end]);
+            taken.pool
+        }
+        Place::Full => taken.pool,
+    }
+}
+
+// The month has its own block, or a free one.
+fn open_month(pool: Pool, month: u16, store: &mut [u8]) -> Pool
+    requires { ⌜ length (now store) ≡ storeLength ⌝ }
+    ensures { λ r. ⌜ storedOf r (now (store .exit)) ≡ openMonth month (storedOf pool (now (store .entry))) ⌝ }
+{
+    match pool.find(month) {
+        Found::At(_) => pool,
+        Found::Nothing => take_block(pool, month, store),
+    }
+}
+
+// 'Byte i is the rate of its slot i': the rates of the month's slots from `from` on.
+fn lay_piece(pool: Pool, month: u16, from: usize, rates: &[u8], store: &mut [u8])
+    requires { ⌜ (length (now store) ≡ storeLength) × (from + length (now rates) ≤ blockLength) ⌝ }
+    ensures { λ _. ⌜ storedOf pool (now (store .exit)) ≡ layPiece (pieceOf month from (now (rates .entry))) (storedOf pool (now (store .entry))) ⌝ }
+{
+    match pool.find(month) {
+        Found::At(b) => {
+            let at = b * BLOCK + from;
+            let end = at + rates.len();
+            copy(&mut store[at..end], rates)
+        }
+        Found::Nothing => {}
+    }
+}
+
+// 'Slots below floor are passed over'; a piece with no rates takes no block.
+fn put_piece(
+    pool: Pool,
+    floor: u16,
+    month: u16,
+    from: usize,
+    rates: &[u8],
+    store: &mut [u8],
+) -> Pool
+    requires { ⌜ (length (now store) ≡ storeLength) × (from + length (now rates) ≤ blockLength) ⌝ }
+    ensures { λ r. ⌜ storedOf r (now (store .exit)) ≡ putPiece floor (pieceOf month from (now (rates .entry))) (storedOf pool (now (store .entry))) ⌝ }
+{
+    if (floor <= month) & (0 < rates.len()) {
+        let opened = open_month(pool, month, store);
+        lay_piece(opened, month, from, rates, store);
+        opened
+    } else {
+        pool
+    }
+}
+
+// The part of the rates that lies in the month.
+fn put_month(pool: Pool, floor: u16, month: u16, slot: u32, rates: &[u8], store: &mut [u8]) -> Pool
+    requires { ⌜ (length (now store) ≡ storeLength) × (month ≤ 1201) ⌝ }
+    ensures { λ r. ⌜ storedOf r (now (store .exit)) ≡ putPiece floor (pieceIn month slot (now (rates .entry))) (storedOf pool (now (store .entry))) ⌝ }
+{
+    let start = slot as usize;
+    let first = calendar::first_slot(month) as usize;
+    let low = greater(start, first);
+    let high = lesser(
+        start + rates.len(),
+        calendar::first_slot(month + 1) as usize,
+    );
+    if low < high {
+        let a = low - start;
+        let e = high - start;
+        put_piece(pool, floor, month, low - first, &rates[a..e], store)
+    } else {
+        pool
+    }
+}
+
+// Whether so many rates from a slot on can be put into a store of so many bytes.
+fn can_put(slot: u32, count: usize, bytes: usize) -> bool
+    requires { ⌜ count < 2 ^ 63 ⌝ }
+    ensures { λ r. ⌜ r ≡ canPutCount slot count bytes ⌝ }
+{
+    let end = slot as usize + count;
+    let month = calendar::month_of_slot(slot);
+    (bytes == STORE) & (end <= SLOTS) & (end <= calendar::first_slot(month + 2) as usize)
+}
+
+// Puts the rates of consecutive slots, from a slot on, into the blocks of their months; what cannot be put changes nothing.
+pub fn put_run(pool: Pool, floor: u16, slot: u32, rates: &[u8], store: &mut [u8]) -> Pool
+    ensures { λ r. ⌜ (r ≡ putRun floor slot (now (rates .entry)) (storedOf pool (now (store .entry))) .pool) × (now (store .exit) ≡ putRun floor slot (now (rates .entry)) (storedOf pool (now (store .entry))) .store) ⌝ }
+{
+    if !can_put(slot, rates.len(), store.len()) {
+        return pool;
+    }
+    let month = calendar::month_of_slot(slot);
+    let first = put_month(pool, floor, month, slot, rates, store);
+    put_month(first, floor, month + 1, slot, rates, store)
+}

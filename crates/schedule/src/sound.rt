@@ -1,0 +1,82 @@
+// Whether a store is sound with a pool: one scan of the held blocks' bytes, with a flag and no early exit, so that it vectorises.
+ghost use mathlib.Core.Path.{_≡_};
+ghost use Prim.Native.Nat.{_<_};
+ghost use lib.ListN.{length};
+ghost use Rattle.rules.specs.Store.{blockLength, storeLength, all, soundBlock};
+ghost use Rattle.schedule.specs.Stored.{storeHolds};
+ghost use Rattle.schedule.specs.Rates.{rateByte, blankByte, placeHolds};
+use crate::layout::BLOCK;
+use crate::layout::BLOCKS;
+use crate::layout::NO_RATE;
+use crate::layout::STORE;
+use pool::Pool;
+
+// Rates are 0 to 100, in percent.
+const MOST_RATE: u8 = 100;
+
+const SLOTS_OF_DAY: usize = 48;
+
+// Whether each byte is a rate, 0 to 100, or 255.
+fn all_rates(s: &[u8]) -> bool
+    ensures { λ r. ⌜ r ≡ all rateByte (now (s .entry)) ⌝ }
+{
+    let mut good = true;
+    let mut i = 0;
+    while i < s.len() {
+        good = good & ((s[i] <= MOST_RATE) | (s[i] == NO_RATE));
+        i += 1;
+    }
+    good
+}
+
+// Whether each byte is 255.
+fn all_blank(s: &[u8]) -> bool
+    ensures { λ r. ⌜ r ≡ all blankByte (now (s .entry)) ⌝ }
+{
+    let mut good = true;
+    let mut i = 0;
+    while i < s.len() {
+        good = good & (s[i] == NO_RATE);
+        i += 1;
+    }
+    good
+}
+
+// Whether a month's block has 'bytes 0 to 100 or 255, and 255 past its month's end'.
+fn block_holds(month: u16, block: &[u8]) -> bool
+    requires { ⌜ length (now block) ≡ blockLength ⌝ }
+    ensures { λ r. ⌜ r ≡ soundBlock month (now (block .entry)) ⌝ }
+{
+    let end = SLOTS_OF_DAY * (calendar::days_of_month(month) as usize);
+    all_rates(&block[..end]) & all_blank(&block[end..])
+}
+
+// Whether block b is free, or is sound with its month.
+fn place_holds(pool: Pool, b: usize, store: &[u8]) -> bool
+    requires { ⌜ (b < 16) × (length (now store) ≡ storeLength) ⌝ }
+    ensures { λ r. ⌜ r ≡ placeHolds pool (now (store .entry)) b ⌝ }
+{
+    if (pool.free >> b) % 2 == 1 {
+        return true;
+    }
+    let months = pool.months;
+    let at = b * BLOCK;
+    let end = at + BLOCK;
+    block_holds(months[b], &store[at..end])
+}
+
+// Whether the store has its length, and each held block is sound.
+pub fn store_holds(pool: Pool, store: &[u8]) -> bool
+    ensures { λ r. ⌜ r ≡ storeHolds pool (now (store .entry)) ⌝ }
+{
+    if store.len() != STORE {
+        return false;
+    }
+    let mut good = true;
+    let mut b = 0;
+    while b < BLOCKS {
+        good = place_holds(pool, b, store) & good;
+        b += 1;
+    }
+    good
+}
