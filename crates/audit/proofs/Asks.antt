@@ -1,0 +1,124 @@
+-- What the machine asks for stays sound: after a failure, a yearly file and an update.
+use Prim.Native.Nat.{ℕ, _+_, _-_, _≤_, _<_}
+use mathlib.Core.Path.{_≡_, refl}
+use mathlib.Core.Bool.{Bool, true, false, cond, not, _&&_, false≢true}
+use native.Mathlib.Omega.{arith}
+use lib.Dec.{leb, ltb, eqb}
+use borrow.Author.Tests.{lt-ltb, le-leb, leb-true, ltb-true, ltb-false}
+use Rattle.rules.specs.Calendar.{timeOfDay, dayLength}
+use Rattle.rules.specs.Store.{Requests, soundRequests}
+use Rattle.rules.specs.Machine.{takeUpdate, takeYear, failedUpdate, failedFixed, failed, isClientError, updateWait, refusedWait, windowStart, nextWindow}
+use Rattle.rules.specs.declared.Kind.{Kind}
+
+pub both : (a b : Bool) → (a && b) ≡ true → (a ≡ true) × (b ≡ true)
+both true b e = (refl, e)
+both false b e = absurd (false≢true e)
+
+-- 'flags 0 to 10, failures 0 to 5, f and u below T + 172,800', as facts
+pub record Asks (q : Requests) : Type 0 where
+  pub wanted : q .wantedFlag ≤ 10
+  pub held : q .heldFlag ≤ 10
+  pub failures : q .failures ≤ 5
+  pub fixed : q .fixedAt < 3155932800
+  pub update : q .updateAt < 3155932800
+
+pub asks-facts : (q : Requests) → soundRequests q ≡ true → Asks q
+unfolding soundRequests
+asks-facts q e =
+    let a = leb (q .wantedFlag) 10 in
+    let b = leb (q .heldFlag) 10 in
+    let c = leb (q .failures) 5 in
+    let d = ltb (q .fixedAt) 3155932800 in
+    let f = ltb (q .updateAt) 3155932800 in
+    let e₄ = both (a && b && c && d) f e in
+    let e₃ = both (a && b && c) d (e₄ .0) in
+    let e₂ = both (a && b) c (e₃ .0) in
+    let e₁ = both a b (e₂ .0) in
+    record {
+      wanted = leb-true _ _ (e₁ .0);
+      held = leb-true _ _ (e₁ .1);
+      failures = leb-true _ _ (e₂ .1);
+      fixed = ltb-true _ _ (e₃ .1);
+      update = ltb-true _ _ (e₄ .1);
+    }
+
+pub facts-asks : (q : Requests) → Asks q → soundRequests q ≡ true
+unfolding soundRequests
+facts-asks q a =
+    rw (
+      le-leb (q .wantedFlag) 10 (a .wanted),
+      le-leb (q .heldFlag) 10 (a .held),
+      le-leb (q .failures) 5 (a .failures),
+      lt-ltb (q .fixedAt) 3155932800 (a .fixed),
+      lt-ltb (q .updateAt) 3155932800 (a .update),
+    )
+
+-- ---- a failure
+
+window-below : (d : ℕ) → windowStart d < 86400
+unfolding windowStart
+window-below d = omega arith
+
+next-below : (d t : ℕ) → nextWindow d t ≤ t + 86400
+unfolding nextWindow
+next-below d t = go (ltb t (t - timeOfDay t + windowStart d)) refl
+  where
+    go : (x : Bool) → ltb t (t - timeOfDay t + windowStart d) ≡ x
+        → cond x (t - timeOfDay t + windowStart d) (t - timeOfDay t + windowStart d + dayLength) ≤ t + 86400
+    go true e = omega (arith, window-below d)
+    go false e = omega (arith, ltb-false t (t - timeOfDay t + windowStart d) e)
+
+wait-most : (x : Bool) → cond x refusedWait updateWait ≤ 86400
+wait-most true = omega arith
+wait-most false = omega arith
+
+module _ (t : ℕ) (below : t < 3155760000) (q : Requests) (a : Asks q) where
+  pub update-asks : (status : ℕ) → Asks (failedUpdate t status q)
+  unfolding failedUpdate
+  update-asks status = record {
+    wanted = a .wanted;
+    held = a .held;
+    failures = a .failures;
+    fixed = a .fixed;
+    update = omega (arith, wait-most (isClientError status));
+  }
+
+  pub fixed-asks : (d status : ℕ) → Asks (failedFixed d t status q)
+  unfolding failedFixed
+  fixed-asks d status = go (not (isClientError status)) (ltb (q .failures) 5) refl
+    where
+      go : (x y : Bool) → ltb (q .failures) 5 ≡ y
+          → Asks (cond (x && y)
+          (record { wantedFlag = q .wantedFlag; heldFlag = q .heldFlag; failures = q .failures + 1; fixedAt = t + 300; updateAt = q .updateAt })
+          (record { wantedFlag = q .wantedFlag; heldFlag = q .heldFlag; failures = 0; fixedAt = nextWindow d t; updateAt = q .updateAt }))
+      go true true e = record {
+        wanted = a .wanted;
+        held = a .held;
+        failures = omega (arith, ltb-true (q .failures) 5 e);
+        fixed = omega arith;
+        update = a .update;
+      }
+      go true false e = record { wanted = a .wanted; held = a .held; failures = omega arith; fixed = omega (arith, next-below d t); update = a .update }
+      go false y e = record { wanted = a .wanted; held = a .held; failures = omega arith; fixed = omega (arith, next-below d t); update = a .update }
+
+  pub failed-asks : (d : ℕ) (kind : Kind) (status : ℕ) → Asks (failed d kind t status q)
+  failed-asks d Kind.Update status = update-asks status
+  failed-asks d Kind.Fixed status = fixed-asks d status
+
+-- ---- a file
+
+module _ (q : Requests) (a : Asks q) where
+  pub year-asks : (digit : ℕ) → digit ≤ 9 → Asks (takeYear digit q)
+  unfolding takeYear
+  year-asks digit l = record { wanted = a .wanted; held = omega arith; failures = omega arith; fixed = omega arith; update = a .update }
+
+  pub taken-asks : (flag next : ℕ) → flag ≤ 9 → next < 3155760000 → Asks (takeUpdate flag next q)
+  unfolding takeUpdate
+  taken-asks flag next l b = go (eqb flag (q .wantedFlag))
+    where
+      go : (x : Bool)
+          → Asks (cond x
+          (record { wantedFlag = q .wantedFlag; heldFlag = q .heldFlag; failures = q .failures; fixedAt = q .fixedAt; updateAt = next })
+          (record { wantedFlag = flag; heldFlag = q .heldFlag; failures = 0; fixedAt = 0; updateAt = next }))
+      go true = record { wanted = a .wanted; held = a .held; failures = a .failures; fixed = a .fixed; update = omega arith }
+      go false = record { wanted = omega arith; held = a .held; failures = omega arith; fixed = omega arith; update = omega arith }

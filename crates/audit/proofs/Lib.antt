@@ -1,0 +1,9 @@
+pub mod Options
+pub mod Follows
+pub mod Asks
+pub mod Ticking
+pub mod MachineLaws
+pub mod UnitLaws
+pub mod Steps
+pub mod Taking
+pub mod EveryList

@@ -1,0 +1,141 @@
+-- What the machine answers at each of its refusals, and where it accepts: one law for each.
+use Prim.Native.Nat.{ℕ, zero, suc}
+use mathlib.Core.Path.{_≡_, refl, ap, _∙_}
+use mathlib.Core.Bool.{Bool, true, false, _&&_}
+use mathlib.Core.List.{List, []}
+use mathlib.Core.Option.{Option, none, some}
+use lib.Dec.{leb, ltb, eqb}
+use Rattle.rules.specs.Plant.{lastDigit}
+use Rattle.rules.specs.Calendar.{endOfTime, slotCount}
+use Rattle.rules.specs.Store.{storeLength, blockCount}
+use Rattle.rules.specs.Causes.{accepted}
+use Rattle.rules.specs.File.{File, Outcome, refuse, file, takeFile}
+use Rattle.rules.specs.Machine.{Machine, Told, tick, fileTaken, failure, due, ceilingOf, rateOf, isHeld, anyFile, countBelow, heldCount, ticked, withFile, isStatus, failed, withRequests, dueOf, ceilingReply, refusal, check, atClock, takeOutcome, step, Step}
+use Rattle.rules.specs.declared.Cause.{Cause}
+use Rattle.rules.specs.declared.Kind.{Kind}
+
+-- nothing is held where no file was taken
+files-none : (M : Machine) (m : ℕ) → M .files ≡ [] → isHeld M m ≡ false
+unfolding isHeld anyFile
+files-none M m e = ap (λ (fs : List File). leb (M .floor) m && anyFile m fs) e ∙ go (leb (M .floor) m)
+  where
+    go : (t : Bool) → (t && anyFile m []) ≡ false
+    go true = refl
+    go false = refl
+
+count-none : (k : ℕ) (p : ℕ → Bool) → ((m : ℕ) → p m ≡ false) → countBelow k p ≡ 0
+unfolding countBelow
+count-none zero p h = refl
+count-none (suc k) p h = rw (count-none k p h, h k) refl
+
+pub held-none : (M : Machine) → M .files ≡ [] → heldCount M ≡ 0
+unfolding heldCount
+held-none M e = count-none 1200 (isHeld M) (λ m. files-none M m e)
+
+module _ (w : Told) (M : Machine) where
+  -- ---- due
+
+  pub due-unset : M .clock ≡ none → step w due M ≡ refusal Cause.ClockUnset M
+  unfolding step
+  due-unset e = ap (λ (o : Option ℕ). atClock o (λ t. (dueOf (lastDigit (w .plant)) t (M .requests), M)) M) e
+
+  pub due-set : (t : ℕ) → M .clock ≡ some t → step w due M ≡ (dueOf (lastDigit (w .plant)) t (M .requests), M)
+  unfolding step
+  due-set t e = ap (λ (o : Option ℕ). atClock o (λ t. (dueOf (lastDigit (w .plant)) t (M .requests), M)) M) e
+
+  -- ---- failure
+
+  module _ (kind : Kind) (status : ℕ) where
+    abbrev reported : ℕ → Step
+    reported t = check (isStatus status) Cause.Range (accepted, withRequests (failed (lastDigit (w .plant)) kind t status (M .requests)) M) M
+
+    pub failure-unset : M .clock ≡ none → step w (failure kind status) M ≡ refusal Cause.ClockUnset M
+    unfolding step
+    failure-unset e = ap (λ (o : Option ℕ). atClock o reported M) e
+
+    pub failure-status : (t : ℕ) → M .clock ≡ some t → isStatus status ≡ false → step w (failure kind status) M ≡ refusal Cause.Range M
+    unfolding step
+    failure-status t e f =
+        ap (λ (o : Option ℕ). atClock o reported M) e
+        ∙ ap (λ (b : Bool). check b Cause.Range (accepted, withRequests (failed (lastDigit (w .plant)) kind t status (M .requests)) M) M) f
+
+    pub failure-done : (t : ℕ) → M .clock ≡ some t → isStatus status ≡ true
+        → step w (failure kind status) M ≡ (accepted, withRequests (failed (lastDigit (w .plant)) kind t status (M .requests)) M)
+    unfolding step
+    failure-done t e f =
+        ap (λ (o : Option ℕ). atClock o reported M) e
+        ∙ ap (λ (b : Bool). check b Cause.Range (accepted, withRequests (failed (lastDigit (w .plant)) kind t status (M .requests)) M) M) f
+
+  -- ---- tick
+
+  module _ (t : ℕ) where
+    pub tick-length : eqb (w .storeLength) storeLength ≡ false → step w (tick t) M ≡ refusal Cause.StoreLength M
+    unfolding step
+    tick-length e = ap (λ (b : Bool). check b Cause.StoreLength (check (ltb t endOfTime) Cause.Range (accepted, ticked (w .settings) t M) M) M) e
+
+    module _ (l : eqb (w .storeLength) storeLength ≡ true) where
+      lent-tick : step w (tick t) M ≡ check (ltb t endOfTime) Cause.Range (accepted, ticked (w .settings) t M) M
+      unfolding step
+      lent-tick = ap (λ (b : Bool). check b Cause.StoreLength (check (ltb t endOfTime) Cause.Range (accepted, ticked (w .settings) t M) M) M) l
+
+      pub tick-range : ltb t endOfTime ≡ false → step w (tick t) M ≡ refusal Cause.Range M
+      tick-range e = lent-tick ∙ ap (λ (b : Bool). check b Cause.Range (accepted, ticked (w .settings) t M) M) e
+
+      pub tick-done : ltb t endOfTime ≡ true → step w (tick t) M ≡ (accepted, ticked (w .settings) t M)
+      tick-done e = lent-tick ∙ ap (λ (b : Bool). check b Cause.Range (accepted, ticked (w .settings) t M) M) e
+
+  -- ---- ceiling
+
+  module _ (slot : ℕ) where
+    abbrev asked : ℕ → Step
+    asked t = check (ltb slot slotCount) Cause.Range (ceilingReply (w .settings) (rateOf M slot), M) M
+
+    pub ceiling-length : eqb (w .storeLength) storeLength ≡ false → step w (ceilingOf slot) M ≡ refusal Cause.StoreLength M
+    unfolding step
+    ceiling-length e = ap (λ (b : Bool). check b Cause.StoreLength (atClock (M .clock) asked M) M) e
+
+    module _ (l : eqb (w .storeLength) storeLength ≡ true) where
+      lent-ceiling : (o : Option ℕ) → M .clock ≡ o → step w (ceilingOf slot) M ≡ atClock o asked M
+      unfolding step
+      lent-ceiling o e = ap (λ (b : Bool). check b Cause.StoreLength (atClock (M .clock) asked M) M) l ∙ ap (λ (o : Option ℕ). atClock o asked M) e
+
+      pub ceiling-unset : M .clock ≡ none → step w (ceilingOf slot) M ≡ refusal Cause.ClockUnset M
+      ceiling-unset e = lent-ceiling none e
+
+      pub ceiling-range : (t : ℕ) → M .clock ≡ some t → ltb slot slotCount ≡ false → step w (ceilingOf slot) M ≡ refusal Cause.Range M
+      ceiling-range t e f = lent-ceiling (some t) e ∙ ap (λ (b : Bool). check b Cause.Range (ceilingReply (w .settings) (rateOf M slot), M) M) f
+
+      pub ceiling-done : (t : ℕ) → M .clock ≡ some t → ltb slot slotCount ≡ true
+          → step w (ceilingOf slot) M ≡ (ceilingReply (w .settings) (rateOf M slot), M)
+      ceiling-done t e f = lent-ceiling (some t) e ∙ ap (λ (b : Bool). check b Cause.Range (ceilingReply (w .settings) (rateOf M slot), M) M) f
+
+  -- ---- file taken
+
+  module _ (name body : List ℕ) where
+    abbrev outcome : ℕ → Step
+    outcome t = takeOutcome (takeFile (w .plant) name body) M
+
+    pub take-length : eqb (w .storeLength) storeLength ≡ false → step w (fileTaken name body) M ≡ refusal Cause.StoreLength M
+    unfolding step
+    take-length e = ap (λ (b : Bool). check b Cause.StoreLength (atClock (M .clock) outcome M) M) e
+
+    module _ (l : eqb (w .storeLength) storeLength ≡ true) where
+      lent-take : (o : Option ℕ) → M .clock ≡ o → step w (fileTaken name body) M ≡ atClock o outcome M
+      unfolding step
+      lent-take o e = ap (λ (b : Bool). check b Cause.StoreLength (atClock (M .clock) outcome M) M) l ∙ ap (λ (o : Option ℕ). atClock o outcome M) e
+
+      pub take-unset : M .clock ≡ none → step w (fileTaken name body) M ≡ refusal Cause.ClockUnset M
+      take-unset e = lent-take none e
+
+      pub take-refused : (t : ℕ) → M .clock ≡ some t → (c : Cause) → takeFile (w .plant) name body ≡ refuse c → step w (fileTaken name body) M ≡ refusal c M
+      take-refused t e c f = lent-take (some t) e ∙ ap (λ (x : Outcome). takeOutcome x M) f
+
+      pub take-full : (t : ℕ) → M .clock ≡ some t → (f : File) → takeFile (w .plant) name body ≡ file f → leb (heldCount (withFile f M)) blockCount ≡ false
+          → step w (fileTaken name body) M ≡ refusal Cause.Full M
+      take-full t e f g k =
+          lent-take (some t) e ∙ ap (λ (x : Outcome). takeOutcome x M) g ∙ ap (λ (b : Bool). check b Cause.Full (accepted, withFile f M) M) k
+
+      pub take-done : (t : ℕ) → M .clock ≡ some t → (f : File) → takeFile (w .plant) name body ≡ file f → leb (heldCount (withFile f M)) blockCount ≡ true
+          → step w (fileTaken name body) M ≡ (accepted, withFile f M)
+      take-done t e f g k =
+          lent-take (some t) e ∙ ap (λ (x : Outcome). takeOutcome x M) g ∙ ap (λ (b : Bool). check b Cause.Full (accepted, withFile f M) M) k
