@@ -10,18 +10,17 @@ use lib.Dec.{leb, ltb, lit<}
 use lib.ListN.{length}
 use borrow.Author.Tests.{leb-true, le-leb, le-ltb, ltb-false}
 use Rattle.rules.specs.Calendar.{firstSlot, slotsOfMonth, monthOfSlot}
-use Rattle.rules.specs.Store.{storeLength, toByte}
+use Rattle.rules.specs.Store.{toByte}
 use Rattle.rules.specs.File.{File, recordsIn}
 use Rattle.rules.specs.Machine.{Machine, freshMachine, rateIn, orElse, lastRate, rateOf, anyFile, isHeld, heldCount, countBelow, withFile}
 use Rattle.pool.specs.Below.{allBelow, bit}
-use Rattle.pool.specs.Blocks.{releaseOf}
 use Rattle.pool.specs.Held.{InBlock}
-use Rattle.pool.specs.declared.Pool.{Pool}
 use Rattle.pool.proofs.BelowLaws.{all-at}
 use Rattle.pool.proofs.Laws.{released-held, released-sound}
 use Rattle.schedule.specs.Stored.{Stored}
 use Rattle.agreement.specs.Agrees.{rateAt, Agrees}
 use Rattle.agreement.specs.Run.{GoodFile, runStart, putRecords}
+use Rattle.agreement.specs.Laws.{FreshAgrees, ReleaseAgrees, SameAgrees, PutAgrees}
 use Rattle.agreement.proofs.Bools.{and-left, and-right, and-false}
 use Rattle.agreement.proofs.Given.{released-in, released-bits, released-months}
 use Rattle.agreement.proofs.View.{View, Shows}
@@ -56,9 +55,7 @@ shows-agrees st M h low = record {
 
 -- ---- fresh
 
--- a pool whose blocks are all free, and any store of 01's length, agree with the fresh machine
-pub fresh : (p : Pool) (store : List ℕ) → length (p .months) ≡ 16 → p .free ≡ 65535 → length store ≡ storeLength
-    → Agrees (record { pool = p; store = store }) freshMachine
+pub fresh : FreshAgrees
 unfolding freshMachine isHeld anyFile rateOf lastRate
 fresh p store long all full = record {
   months = long;
@@ -95,9 +92,7 @@ older-rate M N ee up s r e =
     let l = ltb-false (monthOfSlot s) (N .floor) (w .0) in
     rw (le-ltb (monthOfSlot s) (M .floor) (omega arith), ← ee) (w .1)
 
--- a floor that rises from that of M to f, and the blocks of the months below it released
-pub release : (st : Stored) (M N : Machine) (f : ℕ) → N .floor ≡ f → N .files ≡ M .files → M .floor ≤ f → f ≤ 1199
-    → Agrees st M → Agrees (record { pool = releaseOf (st .pool) f; store = st .store }) N
+pub release : ReleaseAgrees
 unfolding isHeld
 release st M N f ef ee up low a = record {
   months = ap (λ (l : List ℕ). length l) (released-months (st .pool) f) ∙ a .months;
@@ -126,8 +121,7 @@ release st M N f ef ee up low a = record {
         ∙ ap (λ (fs : List File). cond (ltb i (slotsOfMonth m)) (lastRate (firstSlot m + i) fs none) none) (sym ee)
         ∙ sym (rate-above N (rw ef low) m i (rw ef l))
 
--- what the clock, the requests and the command are makes no difference
-pub same-files : (st : Stored) (M N : Machine) → N .floor ≡ M .floor → N .files ≡ M .files → Agrees st M → Agrees st N
+pub same-files : SameAgrees
 unfolding isHeld rateAt rateOf
 same-files st M N ef ee a = record {
   months = a .months;
@@ -142,6 +136,7 @@ same-files st M N ef ee a = record {
 
 -- ---- a file put
 
+-- no rate of a file that can be put is above 100
 low-with : (M : Machine) (f : File) → GoodFile f → ((s r : ℕ) → rateOf M s ≡ some r → r ≤ 100) → (s r : ℕ) → rateOf (withFile f M) s ≡ some r → r ≤ 100
 unfolding rateOf withFile
 low-with M f g low s r e =
@@ -153,9 +148,7 @@ low-with M f g low s r e =
     go none q x t = low s r (rw t x)
     go (some y) q x t = in-low s (runStart (recordsIn (f .body))) (recordsIn (f .body)) g r (q ∙ x)
 
--- a file whose months there is room for
-pub put : (st : Stored) (M : Machine) (f : File) → GoodFile f → heldCount (withFile f M) ≤ 16 → Agrees st M
-    → Agrees (putRecords (M .floor) (recordsIn (f .body)) st) (withFile f M)
+pub put : PutAgrees
 unfolding heldCount
 put st M f g few a =
     let rs = recordsIn (f .body) in

@@ -19,6 +19,7 @@ use Rattle.rules.specs.declared.Format.the-variants.{F201, F202, F203, F301}
 use Rattle.calendar.proofs.Laws.{days-range, first-slot-step, slot-month-until}
 use Rattle.calendar.proofs.DateLaws.{start-below}
 use Rattle.agreement.specs.Run.{GoodRecord, RunFrom, runStart, GoodFile}
+use Rattle.agreement.specs.Laws.{TakenGood}
 use Rattle.agreement.proofs.Bools.{and-left, and-right}
 use Rattle.agreement.proofs.Months.{months-run}
 
@@ -124,8 +125,7 @@ unfolding datesHold ratesHold
 body-good n body (schedule rs) p s d r = schedule-run n body rs p d r s
 body-good n body (registration plant result) p s d r = tt
 
--- a file that is taken can be put
-pub good : (plant name body : List ℕ) (f : File) → takeFile plant name body ≡ file f → GoodFile f
+pub good : TakenGood
 unfolding takeFile readFile stages
 good plant name body f e = go (parseName name) e
   where

@@ -2,7 +2,7 @@
 use mathlib.Core.Path.{_≡_, refl, sym, _∙_, subst}
 use mathlib.Core.Logic.{_⊎_, ⊎-elim}
 use mathlib.Core.Bool.{Bool, true, false, cond}
-use mathlib.Core.List.{List, [], _∷_}
+use mathlib.Core.List.{[], _∷_}
 use Prim.Native.Nat.{ℕ, suc, _+_, _≤_, _<_}
 use native.Mathlib.Omega.{arith}
 use native.Mathlib.Nat.{eq-zero-or-pos}
@@ -12,7 +12,6 @@ use lib.Seq.{length-sets}
 use borrow.Author.Tests.{leb-true}
 use Rattle.rules.specs.Calendar.{monthOfSlot}
 use Rattle.rules.specs.Store.{noRate}
-use Rattle.rules.specs.Body.{Record}
 use Rattle.rules.specs.File.{startOf}
 use Rattle.rules.specs.Machine.{touches, anyRecord}
 use Rattle.pool.specs.Blocks.{isFree, freeCount, findOf, given}
@@ -26,6 +25,7 @@ use Rattle.pool.proofs.Laws.{find-at, take-full, take-in}
 use Rattle.schedule.specs.Stored.{Stored, Piece, place, blank, opened, openBy, openMonth, layBy, layPiece, putPiece, pieceIn, meets, canPut, putRun}
 use Rattle.agreement.specs.Run.{putRecords}
 use Rattle.agreement.specs.Untouched.{Keeps, Untouched}
+use Rattle.agreement.specs.Laws.{RunUntouched, RecordsUntouched}
 use Rattle.agreement.proofs.Bools.{and-left, and-right, or-true}
 use Rattle.agreement.proofs.Bytes.{write-there, length-blank}
 use Rattle.agreement.proofs.Given.{given-new, given-keeps}
@@ -117,8 +117,7 @@ piece-leaves floor q st long fits = go (live floor q) refl
 stays-all : (floor : ℕ) (covered : ℕ → Bool) (st : Stored) → length (st .pool .months) ≡ 16 → Untouched floor covered st st
 stays-all floor covered st long = record { keeps = keeps-same (st .pool) long; size = refl; same = λ b i l n. refl }
 
-pub run-leaves : (floor s : ℕ) (rates : List ℕ) (st : Stored) → length (st .pool .months) ≡ 16
-    → Untouched floor (λ m. meets m s (length rates)) st (putRun floor s rates st)
+pub run-leaves : RunUntouched
 unfolding putRun
 run-leaves floor s rates st long = go (canPut s rates st)
   where
@@ -150,8 +149,7 @@ run-leaves floor s rates st long = go (canPut s rates st)
         }
     go false = stays-all floor (λ k. meets k s (length rates)) st long
 
-pub records-leave : (floor : ℕ) (rs : List Record) (st : Stored) → length (st .pool .months) ≡ 16
-    → Untouched floor (λ m. anyRecord m rs) st (putRecords floor rs st)
+pub records-leave : RecordsUntouched
 unfolding putRecords anyRecord
 records-leave floor [] st long = stays-all floor (λ m. false) st long
 records-leave floor (r ∷ rs) st long =

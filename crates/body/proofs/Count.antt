@@ -1,18 +1,17 @@
 -- Laws of the record count at the front of a body, from what `number` says of it.
 -- Assumes nothing.
 use Prim.Native.Nat.{ℕ, _≤_, _<_}
-use mathlib.Core.Path.{_≡_, _∙_, refl, sym, ap}
-use mathlib.Core.Bool.{Bool, true, false, cond, _&&_}
+use mathlib.Core.Path.{_≡_, _∙_, refl}
+use mathlib.Core.Bool.{Bool, true, false, cond}
 use mathlib.Core.List.{List}
 use native.Mathlib.Omega.{arith}
-use lib.Dec.{leb, eqb, lit≤}
+use lib.Dec.{eqb}
 use lib.ListN.{length}
 use borrow.Author.Tests.{le-leb, lt-leb}
 use Rattle.rules.specs.Digits.{part, allDigits, value}
 use Rattle.rules.specs.Body.{countOf, counted}
 use Rattle.rules.specs.declared.Format.{Format}
 use Rattle.digits.specs.Decimal.{decimalOf}
-use Rattle.digits.specs.declared.Decimal.{Decimal}
 use Rattle.digits.specs.declared.Decimal.the-variants.{Number, Broken}
 use Rattle.body.proofs.Parts.{part-length}
 

@@ -1,12 +1,11 @@
 -- What the stages compute of a record's parts is what they say of its fields.
 -- Assumes nothing.
 use Prim.Native.Nat.{ℕ, _+_, _-_, _≤_, _%_}
-use mathlib.Core.Path.{_≡_, _∙_, refl, sym, ap}
-use mathlib.Core.Bool.{Bool, true}
+use mathlib.Core.Path.{_≡_, _∙_, refl, ap}
+use mathlib.Core.Bool.{Bool}
 use mathlib.Core.List.{List}
-use native.Mathlib.Nat.{le-trans}
 use native.Mathlib.Omega.{arith}
-use lib.Dec.{leb, eqb, lit≤}
+use lib.Dec.{eqb, lit≤}
 use lib.ListN.{length, length-take}
 use borrow.Author.Tests.{le-leb}
 use Rattle.rules.specs.Digits.{part, allAtMost, value, sameBytes}
@@ -15,7 +14,6 @@ use Rattle.rules.specs.File.{sum, checksumOf}
 use Rattle.rules.specs.declared.Format.{Format}
 use Rattle.digits.specs.Decimal.{ratesSum}
 use Rattle.body.specs.Walk.{ratesFit, checksumFits, holds}
-use Rattle.body.specs.declared.stages.Stage.{Stage}
 use Rattle.body.specs.declared.stages.Stage.the-variants.{Plants}
 use Rattle.body.proofs.Parts.{part-part, part-to}
 

@@ -1,32 +1,32 @@
 -- What is kept of an accepted schedule body is what `summaryOf` says of its file.
 -- Assumes nothing.
-use Prim.Native.Nat.{ℕ, zero, suc, _+_, _-_, _*_, _%_, _≤_, _<_}
+use Prim.Native.Nat.{ℕ, zero, suc, _+_, _-_, _*_, _%_, _≤_}
 use mathlib.Core.Path.{_≡_, _∙_, refl, sym, ap}
-use mathlib.Core.Bool.{Bool, true, false, cond, _&&_, false≢true}
+use mathlib.Core.Bool.{Bool, true, false≢true}
 use mathlib.Core.List.{List, [], _∷_}
 use mathlib.Core.Option.{Option, none, some}
 use native.Mathlib.Nat.{suc-mul, add-zero}
 use native.Mathlib.Omega.{arith}
-use lib.Dec.{leb, eqb, lit<, lit≤}
+use lib.Dec.{lit<}
 use borrow.Author.Tests.{eqb-true}
 use lib.ListN.{length, getD, take, drop, length-drop}
 use lib.Seq.{getD-take, getD-drop}
-use Rattle.rules.specs.Digits.{part, allDigits, value, decimal}
-use Rattle.rules.specs.Calendar.{exists, secondsOf, moment, wholeMinute, halfHour, slotOf, startSlot}
-use Rattle.rules.specs.Body.{Record, countOf, flagDigits, tailDigits, ratesOf, sizeOf, recordShape, recordAt, every, isSchedule}
-use Rattle.rules.specs.File.{wholeMonth, monthsFrom, firstMonth, inTime, updateDates, recordDates, startOf, flagOf, nextAccess}
+use Rattle.rules.specs.Digits.{part, value, decimal}
+use Rattle.rules.specs.Calendar.{exists, secondsOf, moment, wholeMinute, halfHour, startSlot}
+use Rattle.rules.specs.Body.{Record, countOf, tailDigits, ratesOf, sizeOf, recordShape, recordAt, every, isSchedule}
+use Rattle.rules.specs.File.{wholeMonth, monthsFrom, inTime, updateDates, recordDates, flagOf}
 use Rattle.rules.specs.Lister.{totalRates}
 use Rattle.rules.specs.declared.Format.{Format}
 use Rattle.rules.specs.declared.Format.the-variants.{F201, F202, F203, F301}
 use Rattle.calendar.specs.Moments.{momentOf}
-use Rattle.calendar.specs.declared.dates.Moment.{Moment}
 use Rattle.calendar.specs.declared.dates.Moment.the-variants.{At, Missing}
 use Rattle.body.specs.Walk.{shaped, recordsFrom, Whole, orZero, accessAt}
 use Rattle.body.specs.Reading.{nameOf, scheduleFile, firstStart, accessOf, summaryOf}
 use Rattle.body.specs.declared.Summary.{Summary}
 use Rattle.body.proofs.Parts.{both, part-to}
 use Rattle.body.proofs.Walk.{count-positive, count-bound, whole, whole-start, records-step}
-use Rattle.body.proofs.Starts.{segment-value, start-full, start-digits, rates-full, next-full, next-digits, start-some, start-is, moment-some, begins-half, MonthFacts, month-facts, or-at, or-missing}
+use Rattle.dates.proofs.Starts.{begins-half, is-start, start-some, moment-some}
+use Rattle.body.proofs.Starts.{segment-value, start-digits, rates-full, next-digits, month-facts, or-at, or-missing}
 
 -- ---- numbers of records and rates
 
@@ -78,28 +78,24 @@ month-start : (f : Format) (s : List ℕ) (m : ℕ) → wholeMonth m (recordAt f
 unfolding recordAt
 month-start f s m h = let g = month-facts m (recordAt f s) h in (g .there, begins-half (part s 36 12) (g .begins))
 
-update-start : (s : List ℕ) → Whole F203 s → updateDates (recordAt F203 s) ≡ true
+update-start : (s : List ℕ) → updateDates (recordAt F203 s) ≡ true
     → (exists (wholeMinute (part s 36 12)) ≡ true) × (halfHour (part s 36 12) ≡ true)
 unfolding updateDates recordAt
-update-start s w h =
+update-start s h =
     let n = length (part s 53 (ratesOf s)) in
     let t = part s 36 12 in
-    let i = both (inTime n (startSlot t)) (exists (part s (53 + ratesOf s + 1 + 2) 14)) h .0 in
-    let x = slotOf (secondsOf (wholeMinute t)) in
-    let j : (exists (wholeMinute t) && halfHour t) ≡ true =
-    go n x (exists (wholeMinute t) && halfHour t) (rw (start-is t (start-full F203 s w) (start-digits F203 s w)) at i) in
-    both (exists (wholeMinute t)) (halfHour t) j
+    go n t (startSlot t) refl (both (inTime n (startSlot t)) (exists (part s (53 + ratesOf s + 1 + 2) 14)) h .0)
   where
-    go : (n x : ℕ) (b : Bool) → inTime n (cond b (some x) none) ≡ true → b ≡ true
-    go n x true e = refl
-    go n x false e = absurd (false≢true e)
+    go : (n : ℕ) (t : List ℕ) (o : Option ℕ) → startSlot t ≡ o → inTime n o ≡ true → (exists (wholeMinute t) ≡ true) × (halfHour t ≡ true)
+    go n t none e i = absurd (false≢true i)
+    go n t (some k) e i = let r = is-start t e in (r .1, r .2)
 
 next-is : (s : List ℕ) → Whole F203 s → updateDates (recordAt F203 s) ≡ true → orZero (moment (recordAt F203 s .next)) ≡ secondsOf (recordAt F203 s .next)
 unfolding updateDates recordAt
 next-is s w h =
     let u = part s (53 + ratesOf s + 1 + 2) 14 in
     let e = both (inTime (length (part s 53 (ratesOf s))) (startSlot (part s 36 12))) (exists u) h .1 in
-    ap orZero (moment-some u (next-full s w (ratesOf s) refl) (next-digits s w (ratesOf s) refl) e)
+    ap orZero (moment-some u (next-digits s w (ratesOf s) refl) e)
 
 -- an accepted record's start is a slot's
 starts : (f : Format) (segment : ℕ) (s : List ℕ) → isSchedule f ≡ true → Whole f s
@@ -107,7 +103,7 @@ starts : (f : Format) (segment : ℕ) (s : List ℕ) → isSchedule f ≡ true �
     → (exists (wholeMinute (part s 36 12)) ≡ true) × (halfHour (part s 36 12) ≡ true)
 starts F201 segment s i w d = month-start F201 s _ (months-first _ (recordsFrom F201 13 s) (first-record F201 s) d)
 starts F202 segment s i w d = month-start F202 s _ (months-first _ (recordsFrom F202 1 s) (first-record F202 s) d)
-starts F203 segment s i w d = update-start s w (every-first updateDates (recordsFrom F203 1 s) (first-record F203 s) d)
+starts F203 segment s i w d = update-start s (every-first updateDates (recordsFrom F203 1 s) (first-record F203 s) d)
 starts F301 segment s i w d = absurd (false≢true i)
 
 -- and the next access of a 203 exists
@@ -129,7 +125,7 @@ module _ (f : Format) (segment : ℕ) (s : List ℕ) (i : isSchedule f ≡ true)
       let w = whole-start f s e in
       let t = part s 36 12 in
       let r = starts f segment s i w d in
-      rw (first-record f s, start-some t (start-full f s w) (start-digits f s w) (r .0) (r .1)) refl
+      rw (first-record f s, start-some t (start-digits f s w) (r .0) (r .1)) refl
 
   flag-kept : flagOf (recordAt f s ∷ []) ≡ flagOf (recordsFrom f (countOf f) s)
   flag-kept = rw (first-record f s) refl

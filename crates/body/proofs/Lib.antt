@@ -5,3 +5,4 @@ pub mod Fields
 pub mod Starts
 pub mod Kept
 pub mod Outcomes
+pub mod Laws

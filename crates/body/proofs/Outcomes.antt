@@ -1,18 +1,17 @@
 -- Laws of reading: which answer each stage's result gives, and that the creation time of a name does not matter to its body.
 -- Assumes nothing.
-use Prim.Native.Nat.{ℕ, zero, suc, _+_, _-_, _*_, _/_, _%_, _≤_, _<_}
+use Prim.Native.Nat.{ℕ, _-_, _%_, _≤_}
 use mathlib.Core.Path.{_≡_, _∙_, refl, sym, ap}
-use mathlib.Core.Bool.{Bool, true, false, cond, _&&_, false≢true}
-use mathlib.Core.List.{List, [], _∷_}
+use mathlib.Core.Bool.{Bool, true, false, cond, false≢true}
+use mathlib.Core.List.{List, []}
 use mathlib.Core.Option.{Option, none, some, Option·map}
-use native.Mathlib.Omega.{arith}
 use lib.Dec.{leb, eqb}
 use lib.ListN.{length, getD, take, drop}
-use borrow.Author.Tests.{leb-true, eq-eqb, ne-eqb, eqb-true}
-use Rattle.rules.specs.Digits.{part, allAtMost, allDigits, digits, valueFrom, value, decimal, sameBytes}
+use borrow.Author.Tests.{leb-true, eqb-true}
+use Rattle.rules.specs.Digits.{part, allDigits, sameBytes}
 use Rattle.rules.specs.Name.{Name}
-use Rattle.rules.specs.Body.{Record, Body, schedule, registration, countOf, parseRecords, parseRegistration, parseRest, parseBody, counted, every, isSchedule}
-use Rattle.rules.specs.File.{File, Outcome, refuse, file, need, recordDates, datesHold, ratesHold, checksumsHold, plantsHold, stages, withBody}
+use Rattle.rules.specs.Body.{Record, Body, schedule, registration, countOf, parseRegistration, parseRest, parseBody, counted, every, isSchedule}
+use Rattle.rules.specs.File.{File, file, need, recordDates, datesHold, ratesHold, checksumsHold, plantsHold, stages, withBody}
 use Rattle.rules.specs.declared.Cause.{Cause}
 use Rattle.rules.specs.declared.Format.{Format}
 use Rattle.rules.specs.declared.Format.the-variants.{F201, F202, F203, F301}
@@ -21,7 +20,6 @@ use Rattle.body.specs.Reading.{nameOf, scheduleFile, summaryOf, readingO
 use Rattle.body.specs.declared.Summary.{Summary}
 use Rattle.body.specs.declared.Reading.{Reading}
 use Rattle.body.specs.declared.Reading.the-variants.{Read, Refused}
-use Rattle.body.specs.declared.stages.Stage.{Stage}
 use Rattle.body.specs.declared.stages.Stage.the-variants.{Rates, Checksums, Plants}
 use Rattle.digits.proofs.Scan.{part-rest}
 use Rattle.body.proofs.Parts.{both}
@@ -153,10 +151,13 @@ module _ (f : Format) (n : Name) (body : List ℕ) where
   unfolding parseBody readingOf
   no-count e = rw (sym e) refl
 
+  pub with-rest : true ≡ counted f body → readingOf (withBody n (parseRest f (drop 6 body))) ≡ readingOf (withBody n (parseBody f body))
+  unfolding parseBody
+  with-rest e = rw (sym e) refl
+
   pub with-count : true ≡ counted f body
       → readingOf (withBody n (parseRest f (take (length body - 6) (drop 6 body)))) ≡ readingOf (withBody n (parseBody f body))
-  unfolding parseBody
-  with-count e = rw (part-rest body 6, sym e) refl
+  with-count e = rw (part-rest body 6) (with-rest e)
 
 -- a format without records of rates is 301
 pub with-registration : (f : Format) (segment : ℕ) (plant body : List ℕ) → isSchedule f ≡ false → true ≡ counted f body

@@ -1,15 +1,14 @@
 -- Laws of the parts of a record: the numbers that they stand for, and parts of parts.
 -- Assumes nothing.
-use Prim.Native.Nat.{ℕ, zero, suc, _+_, _-_, _*_, _≤_, _<_, _%_}
+use Prim.Native.Nat.{ℕ, zero, suc, _+_, _-_, _*_, _≤_, _<_}
 use mathlib.Core.Path.{_≡_, _∙_, refl, sym, ap}
 use mathlib.Core.Bool.{Bool, true, false, _&&_, false≢true}
 use mathlib.Core.List.{List, [], _∷_}
 use native.Mathlib.Nat.{add-sub-cancel-left}
 use native.Mathlib.Omega.{arith}
-use lib.Dec.{leb, eqb, lit≤}
+use lib.Dec.{leb}
 use lib.ListN.{length, getD, take, drop, length-take, length-drop}
 use lib.Seq.{take-take, drop-drop}
-use borrow.Author.Tests.{le-leb}
 use Rattle.rules.specs.Digits.{part, allAtMost, valueFrom, value}
 use Rattle.rules.specs.Body.{ratesOf}
 use Rattle.digits.proofs.Scan.{at-next}

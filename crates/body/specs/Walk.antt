@@ -25,6 +25,11 @@ unfoldable pub recordsFrom : Format → ℕ → List ℕ → List Record
 recordsFrom f zero s = []
 recordsFrom f (suc k) s = recordAt f s ∷ recordsFrom f k (drop (sizeOf f s) s)
 
+-- where record k of a body starts: the first after the 6-digit count, each other where the one before it ends
+unfoldable pub recordStart : Format → List ℕ → ℕ → ℕ
+recordStart f body zero = 6
+recordStart f body (suc k) = recordStart f body k + sizeOf f (drop (recordStart f body k) body)
+
 -- a record stands at the front of s
 pub record Whole (f : Format) (s : List ℕ) : Type 0 where
   pub few : ratesOf s ≤ 99999

@@ -1,6 +1,6 @@
 // The body of a file, read under its name: each of the causes 9 to 13 is looked for in all records before the next.
 mod accepted;
-mod dates;
+mod date_stage;
 mod form;
 mod places;
 mod stages;
@@ -40,7 +40,7 @@ fn read_schedule(format: Format, segment: u16, plant: &[u8], s: &[u8]) -> Readin
     if !form::records_stand(format, s) {
         return Reading::Refused(Cause::Form);
     }
-    if !dates::dates_hold(format, segment, s) {
+    if !date_stage::dates_hold(format, segment, s) {
         return Reading::Refused(Cause::Date);
     }
     if !stages::records_hold(Stage::Rates, format, plant, s) {

@@ -51,9 +51,10 @@ fn checksum_holds(format: Format, s: &[u8]) -> bool
     ensures { λ r. ⌜ r ≡ checksumFits (recordAt format (now (s .entry))) ⌝ }
 {
     let end = RATES + rate_count(s) as usize;
+    let checksum = end + flag_digits(format);
     let sum = digits::sum(&s[RATES..end]);
     let divisor = pair(s, MONTH) + pair(s, DAY);
-    pair(s, end + flag_digits(format)) == modulo(sum, divisor)
+    pair(s, checksum) == modulo(sum, divisor)
 }
 
 // Whether the record at the front of `s` passes the stage.

@@ -13,7 +13,7 @@ use borrow.Author.Tests.{eq-eqb, ltb-true}
 use Rattle.rules.specs.Store.{storeLength}
 use Rattle.rules.specs.Calendar.{firstSlot, monthOfSlot}
 use Rattle.calendar.proofs.Laws.{first-slot-step, days-range}
-use Rattle.pool.specs.Blocks.{isFree, monthOf, freeCount, given, findOf, takeOf, holdBy, holdOf}
+use Rattle.pool.specs.Blocks.{isFree, freeCount, given, findOf, takeOf, holdBy, holdOf}
 use Rattle.pool.specs.Held.{InBlock}
 use Rattle.pool.specs.declared.Pool.{Pool}
 use Rattle.pool.specs.declared.Taken.{Taken}
@@ -150,7 +150,7 @@ take-old p m x c long i = ⊎-elim (λ z. rw (take-full p m z) i) (λ r. some (t
 pub take-months : (p : Pool) (m : ℕ) → length (takeOf p m .pool .months) ≡ length (p .months)
 take-months p m = ⊎-elim (λ z. rw (take-full p m z)) (λ r. let w = take-in p m r in rw (w .3) (length-set (p .months) (w .0) m)) (eq-zero-or-pos (freeCount p))
 
-opened-pool : (p : Pool) (x : Place) (l : List ℕ) → opened p x l .pool ≡ p
+pub opened-pool : (p : Pool) (x : Place) (l : List ℕ) → opened p x l .pool ≡ p
 opened-pool p (In b) l = refl
 opened-pool p Full l = refl
 

@@ -4,3 +4,4 @@ pub mod PutLaws
 pub mod StoreLaws
 pub mod MissingLaws
 pub mod Laws
+pub mod AfterLaws

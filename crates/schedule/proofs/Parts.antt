@@ -8,8 +8,8 @@ use native.Mathlib.Numerals.{add-one}
 use native.Mathlib.Omega.{arith}
 use borrow.Author.Fill.{fill-more}
 use borrow.Rule.Slice.PartMut.{midOf, putMid, mid-len, post-is}
-use lib.ListN.{length, getD, take, drop, set, replicate, length-take, length-drop, length-append, length-set, length-replicate, drop-of-length-le}
-use lib.Seq.{take-suc, take-suc-set, take-all, take-append-le, drop-length, sets, sets-eq, length-sets}
+use lib.ListN.{length, getD, take, drop, set, replicate, length-replicate}
+use lib.Seq.{take-suc, take-suc-set, take-all, drop-length, sets, sets-eq}
 
 -- an element within the list is the same for every default
 pub getD-in : (l : List ℕ) (i d e : ℕ) → i < length l → getD l i d ≡ getD l i e

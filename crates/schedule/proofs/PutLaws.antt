@@ -1,15 +1,15 @@
 -- Laws of putting rates: what each step of `putRun` is, by the tests that the code makes.
 -- Assumes nothing.
-use Prim.Native.Nat.{ℕ, zero, suc, _+_, _-_, _*_, _≤_, _<_, min, max}
+use Prim.Native.Nat.{ℕ, suc, _+_, _-_, _≤_, _<_, min, max}
 use mathlib.Core.Path.{_≡_, _∙_, refl, sym, ap}
-use mathlib.Core.Bool.{Bool, true, false, cond, _&&_}
-use mathlib.Core.List.{List, [], _∷_}
+use mathlib.Core.Bool.{Bool, true, false, _&&_}
+use mathlib.Core.List.{List}
 use mathlib.Core.Logic.{⊎-elim}
 use native.Mathlib.Nat.{eq-zero-or-pos}
 use native.Mathlib.Numerals.{add-one}
 use native.Mathlib.Omega.{arith}
 use lib.Dec.{leb, ltb, eqb}
-use lib.ListN.{length, take, drop, length-take, length-drop}
+use lib.ListN.{length, take, drop, length-take}
 use lib.Seq.{sets}
 use borrow.Author.Tests.{eqb-true}
 use Rattle.rules.specs.Calendar.{firstSlot, monthOfSlot, slotCount}
@@ -76,9 +76,10 @@ module _ (p : Pool) (q : Piece) (l : List ℕ) where
 -- ---- a piece, and the part of a run in a month
 
 module _ (floor : ℕ) (q : Piece) (s : Stored) where
-  pub piece-in : (leb floor (q .month) && ltb 0 (length (q .rates))) ≡ true → putPiece floor q s ≡ layPiece q (openMonth (q .month) s)
+  pub piece-in : (first after : Stored) → (leb floor (q .month) && ltb 0 (length (q .rates))) ≡ true
+      → first ≡ openMonth (q .month) s → after ≡ layPiece q first → after ≡ putPiece floor q s
   unfolding putPiece
-  piece-in e = rw e
+  piece-in first after e f g = rw e (g ∙ ap (layPiece q) f)
 
   pub piece-out : (leb floor (q .month) && ltb 0 (length (q .rates))) ≡ false → putPiece floor q s ≡ s
   unfolding putPiece
@@ -96,9 +97,13 @@ pub part-room : (first low high n : ℕ) → first ≤ low → low < high → hi
 part-room first low high n a b c d = omega arith
 
 module _ (m s first low high : ℕ) (rates : List ℕ) (f : first ≡ firstSlot m) (l : low ≡ max s first) (h : high ≡ min (s + length rates) (firstSlot (suc m))) where
-  pub piece-is : low < high → pieceIn m s rates ≡ pieceOf m (low - first) (take ((high - s) - (low - s)) (drop (low - s) rates))
+  piece-is : low < high → pieceIn m s rates ≡ pieceOf m (low - first) (take ((high - s) - (low - s)) (drop (low - s) rates))
   unfolding pieceIn
   piece-is k = rw (part-count s low high (omega arith) k, l, h, f)
+
+  pub piece-put : (floor : ℕ) (st after : Stored) → low < high
+      → after ≡ putPiece floor (pieceOf m (low - first) (take ((high - s) - (low - s)) (drop (low - s) rates))) st → after ≡ putPiece floor (pieceIn m s rates) st
+  piece-put floor st after k e = e ∙ ap (λ (q : Piece). putPiece floor q st) (sym (piece-is k))
 
   pub piece-fits : low < high → (low - first) + length (take ((high - s) - (low - s)) (drop (low - s) rates)) ≤ 1488
   piece-fits k =

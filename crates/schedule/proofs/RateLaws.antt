@@ -1,11 +1,11 @@
 -- Laws of the rate of a slot: a byte as a rate, and the place of a slot.
 -- Assumes nothing.
-use Prim.Native.Nat.{ℕ, zero, suc, _+_, _-_, _*_, _≤_, _<_}
-use mathlib.Core.Path.{_≡_, _∙_, refl, sym, ap}
-use mathlib.Core.Bool.{Bool, true, false, cond}
+use Prim.Native.Nat.{ℕ, _-_, _≤_, _<_}
+use mathlib.Core.Path.{_≡_, refl}
+use mathlib.Core.Bool.{Bool, true, false}
 use mathlib.Core.List.{List}
 use native.Mathlib.Omega.{arith}
-use lib.Dec.{ltb, eqb}
+use lib.Dec.{ltb}
 use lib.ListN.{getD}
 use borrow.Author.Tests.{eq-eqb, ne-eqb, ltb-true, ltb-false}
 use Rattle.rules.specs.Calendar.{firstSlot, monthOfSlot}
@@ -15,7 +15,7 @@ use Rattle.pool.specs.Blocks.{findOf}
 use Rattle.pool.specs.declared.Pool.{Pool}
 use Rattle.pool.specs.declared.Found.the-variants.{At, Nothing}
 use Rattle.pool.proofs.Laws.{find-at}
-use Rattle.schedule.specs.Stored.{place, rateFound, storedRate}
+use Rattle.schedule.specs.Stored.{place, storedRate}
 use Rattle.schedule.specs.Rates.{rateOption}
 use Rattle.schedule.specs.declared.rates.StoredRate.the-variants.{Rate, NoRate}
 

@@ -1,19 +1,18 @@
 -- Laws of a sound store: a scan of bytes, a block, and the blocks one after the other.
 -- Assumes nothing.
-use Prim.Native.Nat.{ℕ, zero, suc, _+_, _-_, _*_, _≤_, _<_}
-use mathlib.Core.Path.{_≡_, _∙_, refl, sym, ap}
+use Prim.Native.Nat.{ℕ, _+_, _-_, _≤_, _<_}
+use mathlib.Core.Path.{_≡_, _∙_, refl, ap}
 use mathlib.Core.Bool.{Bool, true, false, cond, _&&_, _||_}
-use mathlib.Core.List.{List, [], _∷_}
+use mathlib.Core.List.{List, _∷_}
 use native.Mathlib.Numerals.{add-one}
 use native.Mathlib.Omega.{arith}
-use lib.Dec.{leb, ltb, eqb}
 use lib.ListN.{length, getD, take, drop, length-take, length-drop}
 use borrow.Author.Tests.{eq-eqb, ne-eqb}
 use Rattle.rules.specs.Calendar.{slotsOfMonth}
-use Rattle.rules.specs.Store.{storeLength, noRate, all, blockOf, soundBlock, soundStore}
+use Rattle.rules.specs.Store.{storeLength, all, blockOf, soundBlock, soundStore}
 use Rattle.digits.proofs.Scan.{all-step, all-end, part-rest}
 use Rattle.pool.specs.Blocks.{isFree, monthOf}
-use Rattle.pool.specs.Held.{heldBelow, heldOf}
+use Rattle.pool.specs.Held.{heldBelow}
 use Rattle.pool.specs.declared.Pool.{Pool}
 use Rattle.schedule.specs.Stored.{storeHolds}
 use Rattle.schedule.specs.Rates.{rateByte, blankByte, placeHolds}

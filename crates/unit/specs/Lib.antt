@@ -2,3 +2,4 @@ pub mod Values
 pub mod Rows
 pub mod Calls
 pub mod Step
+pub mod Ticks

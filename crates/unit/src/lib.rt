@@ -5,6 +5,10 @@ ghost use Rattle.rules.specs.Store.{soundClock};
 ghost use Rattle.plant.specs.Plant.{settings};
 ghost use Rattle.unit.specs.Values.{clockOf, isSound, freshUnit, installedUnit};
 ghost use Rattle.unit.specs.Calls.{refusal, lostOf, failureOf, dueReply, commandOf, freeOf};
+
+mod ceiling;
+mod tick;
+
 use plant::Plant;
 use pool::Pool;
 use requests::Requests;

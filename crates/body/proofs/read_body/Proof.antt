@@ -1,60 +1,40 @@
-use Prim.Native.Nat.{ℕ, _≤_, _+_, _-_, _*_, _<_}
-use mathlib.Core.Path.{_≡_, _∙_, refl, sym, ap}
-use mathlib.Core.Bool.{true, false}
-use native.Mathlib.Omega.{arith}
+-- `body::read_body` meets its contract: the count is judged first, and what follows it by its format. Assumes nothing.
+use mathlib.Core.Path.{_∙_, sym}
 use borrow.Author.Tests.{not-true, not-false}
-use denote.Ref.{now}
-use Rattle.rules.specs.Body.{isSchedule}
 use Rattle.body.proofs.Outcomes.{no-count, with-count, with-registration, count-room}
 use borrow.Author.Needs.{needs}
 use Rattle.body.proofs.read_body.Statement.{statement}
 use Rattle.body.proofs.read_body.Tie as tie
-use Rattle.body.proofs.read_body.Reads as reads
-use Rattle.body.proofs.read_body.Lts as lts
-use Rattle.body.proofs.form.count_holds.Reads as count-holds-reads
-use Rattle.body.proofs.places.is_schedule.Reads as is-schedule-reads
-use Rattle.body.proofs.read_registration.Reads as read-registration-reads
-use Rattle.body.proofs.read_schedule.Reads as read-schedule-reads
 
--- src/lib.rt:86:9
 count-holds-requires : tie.Need-count-holds-requires
 count-holds-requires c κs = search needs
 
--- src/lib.rt:87:9
 returns : tie.Need-returns
 returns c = no-count _ _ _ (sym (not-true _ (c .if1 .taken)) ∙ c .before .count-holds .ensures)
 
--- src/lib.rt:89:13
 sub-s : tie.Need-sub-s
 sub-s c = count-room _ _ (sym (not-false _ (c .if1 .left)) ∙ c .before .count-holds .ensures)
 
--- src/lib.rt:89:13
 part-s-start : tie.Need-part-s-start
 part-s-start c = count-room _ _ (sym (not-false _ (c .if1 .left)) ∙ c .before .count-holds .ensures)
 
--- src/lib.rt:89:13
 part-s-end : tie.Need-part-s-end
 part-s-end c = search needs
 
--- src/lib.rt:90:8
 is-schedule-requires : tie.Need-is-schedule-requires
 is-schedule-requires c κs = search needs
 
--- src/lib.rt:91:9
 read-schedule-requires : tie.Need-read-schedule-requires
 read-schedule-requires c κs = search needs
 
--- src/lib.rt:91:9
 returns-2 : tie.Need-returns-2
 returns-2 c =
     let e₁ = c .before .before .before .before in
     c .read-schedule .ensures ∙ with-count _ _ _ (sym (not-false _ (e₁ .if1 .left)) ∙ e₁ .before .count-holds .ensures)
 
--- src/lib.rt:93:5
 read-registration-requires : tie.Need-read-registration-requires
 read-registration-requires c κs = search needs
 
--- src/lib.rt:83:1
 returns-3 : tie.Need-returns-3
 returns-3 c =
     let e₂ = c .before in

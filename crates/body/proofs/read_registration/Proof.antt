@@ -1,55 +1,40 @@
-use Prim.Native.Nat.{ℕ, _≤_, _+_, _-_, _*_, _<_}
-use mathlib.Core.Path.{_≡_, _∙_, refl, sym, ap}
-use mathlib.Core.Bool.{true, false}
+-- `body::read_registration` meets its contract: form and plant are all that is judged. Assumes nothing.
+use mathlib.Core.Path.{_∙_, sym}
 use native.Mathlib.Omega.{arith}
 use borrow.Author.Tests.{not-true, not-false}
-use denote.Ref.{now}
 use Rattle.body.proofs.Outcomes.{no-registration, registered-length, no-registered-plant, registered-plant}
 use borrow.Author.Needs.{needs}
 use Rattle.body.proofs.read_registration.Statement.{statement}
 use Rattle.body.proofs.read_registration.Tie as tie
-use Rattle.body.proofs.read_registration.Reads as reads
-use Rattle.body.proofs.read_registration.Lts as lts
-use Rattle.body.proofs.form.registration_stands.Reads as registration-stands-reads
-use Rattle.digits.proofs.same.Reads as same-reads
 
--- src/lib.rt:63:9
 registration-stands-requires : tie.Need-registration-stands-requires
 registration-stands-requires c κs = search needs
 
--- src/lib.rt:64:9
 returns : tie.Need-returns
 returns c = no-registration _ _ _ (sym (c .before .registration-stands .ensures) ∙ not-true _ (c .if1 .taken))
 
--- src/lib.rt:66:22
 sub-same : tie.Need-sub-same
 sub-same c = search needs
 
--- src/lib.rt:66:22
 part-same-start : tie.Need-part-same-start
 part-same-start c = search needs
 
--- src/lib.rt:66:22
 part-same-end : tie.Need-part-same-end
 part-same-end c = omega (arith, registered-length _ (sym (c .before .registration-stands .ensures) ∙ not-false _ (c .if1 .left)))
 
--- src/lib.rt:66:9
 same-requires : tie.Need-same-requires
 same-requires c κs = search needs
 
--- src/lib.rt:67:9
 returns-2 : tie.Need-returns-2
 returns-2 c =
     let e₁ = c .before .before .before in
     no-registered-plant _ _ _ (sym (e₁ .before .registration-stands .ensures) ∙ not-false _ (e₁ .if1 .left)) (sym (not-true _ (c .if2 .taken)) ∙ c .before .same .ensures)
 
--- src/lib.rt:69:18
 shared-slice-read-result : tie.Need-shared-slice-read-result
 shared-slice-read-result c =
     let e₁ = c .before .before .before .before in
     omega (arith, registered-length _ (sym (e₁ .before .registration-stands .ensures) ∙ not-false _ (e₁ .if1 .left)))
 
--- src/lib.rt:60:1
 returns-3 : tie.Need-returns-3
 returns-3 c =
     let e₂ = c .before in

@@ -1,36 +1,23 @@
-use Prim.Native.Nat.{ℕ, _≤_, _+_, _-_, _*_, _<_}
-use mathlib.Core.Path.{_≡_, _∙_, refl, sym, ap}
-use mathlib.Core.Bool.{true, false}
-use native.Mathlib.Omega.{arith}
+-- `body::read_schedule` meets its contract: each return has a law on the tests that led there. Assumes nothing.
+use mathlib.Core.Path.{_∙_, sym}
 use borrow.Author.Tests.{not-true, not-false}
-use denote.Ref.{now}
 use Rattle.body.proofs.Outcomes.{no-form, no-dates, no-rates, no-checksum, no-plant, accepted}
 use borrow.Author.Needs.{needs}
 use Rattle.body.proofs.read_schedule.Statement.{statement}
 use Rattle.body.proofs.read_schedule.Tie as tie
-use Rattle.body.proofs.read_schedule.Reads as reads
-use Rattle.body.proofs.read_schedule.Lts as lts
-use Rattle.body.proofs.accepted.schedule_summary.Reads as schedule-summary-reads
-use Rattle.body.proofs.dates.dates_hold.Reads as dates-hold-reads
-use Rattle.body.proofs.form.records_stand.Reads as records-stand-reads
-use Rattle.body.proofs.stages.records_hold.Reads as records-hold-reads
 
--- src/lib.rt:41:9
 records-stand-requires : tie.Need-records-stand-requires
 records-stand-requires c κs = search needs
 
--- src/lib.rt:42:9
 returns : tie.Need-returns
 returns c =
     let r = c .before in
     let a = r .before .before .before in
     no-form _ _ _ _ (a .pre) (sym (r .records-stand .ensures) ∙ not-true _ (c .if1 .taken))
 
--- src/lib.rt:44:9
 dates-hold-requires : tie.Need-dates-hold-requires
 dates-hold-requires c κs = sym (c .before .records-stand .ensures) ∙ not-false _ (c .if1 .left)
 
--- src/lib.rt:45:9
 returns-2 : tie.Need-returns-2
 returns-2 c =
     let d = c .before in
@@ -39,13 +26,11 @@ returns-2 c =
     no-dates _ _ _ _ (a .pre) (sym (e₁ .before .records-stand .ensures) ∙ not-false _ (e₁ .if1 .left))
     (sym (not-true _ (c .if2 .taken)) ∙ d .dates-hold .ensures)
 
--- src/lib.rt:47:9
 records-hold-requires : tie.Need-records-hold-requires
 records-hold-requires c κs =
     let e₁ = c .before .before in
     sym (e₁ .before .records-stand .ensures) ∙ not-false _ (e₁ .if1 .left)
 
--- src/lib.rt:48:9
 returns-3 : tie.Need-returns-3
 returns-3 c =
     let e₂ = c .before .before in
@@ -55,13 +40,11 @@ returns-3 c =
     (sym (not-false _ (e₂ .if2 .left)) ∙ e₂ .before .dates-hold .ensures)
     (sym (not-true _ (c .if3 .taken)) ∙ c .before .records-hold .ensures)
 
--- src/lib.rt:50:9
 records-hold-requires-2 : tie.Need-records-hold-requires-2
 records-hold-requires-2 c κs =
     let e₁ = c .before .before .before .before in
     sym (e₁ .before .records-stand .ensures) ∙ not-false _ (e₁ .if1 .left)
 
--- src/lib.rt:51:9
 returns-4 : tie.Need-returns-4
 returns-4 c =
     let e₃ = c .before .before in
@@ -73,13 +56,11 @@ returns-4 c =
     (sym (not-false _ (e₃ .if3 .left)) ∙ e₃ .before .records-hold .ensures)
     (sym (not-true _ (c .if4 .taken)) ∙ c .before .records-hold2 .ensures)
 
--- src/lib.rt:53:9
 records-hold-requires-3 : tie.Need-records-hold-requires-3
 records-hold-requires-3 c κs =
     let e₁ = c .before .before .before .before .before .before in
     sym (e₁ .before .records-stand .ensures) ∙ not-false _ (e₁ .if1 .left)
 
--- src/lib.rt:54:9
 returns-5 : tie.Need-returns-5
 returns-5 c =
     let e₄ = c .before .before in
@@ -93,7 +74,6 @@ returns-5 c =
     (sym (not-false _ (e₄ .if4 .left)) ∙ e₄ .before .records-hold2 .ensures)
     (sym (not-true _ (c .if5 .taken)) ∙ c .before .records-hold3 .ensures)
 
--- src/lib.rt:56:19
 schedule-summary-requires : tie.Need-schedule-summary-requires
 schedule-summary-requires c κs =
     let e₂ = c .before .before .before .before .before .before in
@@ -103,7 +83,6 @@ schedule-summary-requires c κs =
       (sym (e₁ .before .records-stand .ensures) ∙ not-false _ (e₁ .if1 .left), sym (e₂ .before .dates-hold .ensures) ∙ not-false _ (e₂ .if2 .left)),
     )
 
--- src/lib.rt:37:1
 returns-6 : tie.Need-returns-6
 returns-6 c =
     let e₅ = c .before in

@@ -1,65 +1,49 @@
-use Prim.Native.Nat.{ℕ, _≤_, _+_, _-_, _*_, _<_}
-use mathlib.Core.Path.{_≡_, _∙_, refl, sym, ap}
-use native.Mathlib.Omega.{arith}
+-- `accepted::flag_at` meets its contract: a 203 alone has a flag. Assumes nothing.
+use mathlib.Core.Path.{refl}
 use denote.Ref.{now}
 use Rattle.rules.specs.Body.{recordAt}
 use Rattle.body.proofs.Kept.{flag-is}
 use borrow.Author.Needs.{needs}
 use Rattle.body.proofs.accepted.flag_at.Statement.{statement}
 use Rattle.body.proofs.accepted.flag_at.Tie as tie
-use Rattle.body.proofs.accepted.flag_at.Reads as reads
-use Rattle.body.proofs.accepted.flag_at.Lts as lts
-use Rattle.body.proofs.places.rate_count.Reads as rate-count-reads
 
--- src/accepted.rt:45:22
 rate-count-requires : tie.Need-rate-count-requires
 rate-count-requires c κs = search needs
 
--- src/accepted.rt:45:22
 cast-at : tie.Need-cast-at
 cast-at c = search needs
 
--- src/accepted.rt:45:14
 add-at : tie.Need-add-at
 add-at c = search needs
 
--- src/accepted.rt:47:25
 enum-told : tie.Need-enum-told
 enum-told c = search needs
 
--- src/accepted.rt:48:25
 enum-told-2 : tie.Need-enum-told-2
 enum-told-2 c = search needs
 
--- src/accepted.rt:49:25
 enum-told-3 : tie.Need-enum-told-3
 enum-told-3 c = search needs
 
--- src/accepted.rt:49:25
 shared-slice-read-result : tie.Need-shared-slice-read-result
 shared-slice-read-result c = search needs
 
--- src/accepted.rt:50:25
 enum-told-4 : tie.Need-enum-told-4
 enum-told-4 c = search needs
 
--- src/accepted.rt:41:1
 returns : tie.Need-returns
 unfolding recordAt
 returns c = rw (c .enum-told .given .1) refl
 
--- src/accepted.rt:41:1
 returns-2 : tie.Need-returns-2
 unfolding recordAt
 returns-2 c = rw (c .enum-told2 .given .1) refl
 
--- src/accepted.rt:41:1
 returns-3 : tie.Need-returns-3
 returns-3 c =
     let n = c .before .before .before in
     rw (c .before .enum-told3 .given .1) (flag-is (now (n .before .before .args .s)) _ (n .rate-count .ensures .0))
 
--- src/accepted.rt:41:1
 returns-4 : tie.Need-returns-4
 unfolding recordAt
 returns-4 c = rw (c .enum-told4 .given .1) refl

@@ -1,107 +1,78 @@
-use Prim.Native.Nat.{ℕ, _≤_, _+_, _-_, _*_, _<_}
-use mathlib.Core.Path.{_≡_, _∙_, refl, sym, ap}
+-- `form::record_stands` meets its contract: each return has a law on the tests that led there. Assumes nothing.
 use native.Mathlib.Omega.{arith}
-use denote.Ref.{now}
 use Rattle.rules.specs.Body.{sizeOf}
 use Rattle.body.proofs.Walk.{no-room, too-many, too-short, the-digits}
 use borrow.Author.Needs.{needs}
 use Rattle.body.proofs.form.record_stands.Statement.{statement}
 use Rattle.body.proofs.form.record_stands.Tie as tie
-use Rattle.body.proofs.form.record_stands.Reads as reads
-use Rattle.body.proofs.form.record_stands.Lts as lts
-use Rattle.body.proofs.places.most_rates.Reads as most-rates-reads
-use Rattle.body.proofs.places.rate_count.Reads as rate-count-reads
-use Rattle.body.proofs.places.record_size.Reads as record-size-reads
-use Rattle.digits.proofs.all_at_most.Reads as all-at-most-reads
 
--- src/form.rt:35:9
 returns : tie.Need-returns
 returns c = no-room _ _ (c .if1 .taken)
 
--- src/form.rt:37:9
 rate-count-requires : tie.Need-rate-count-requires
 rate-count-requires c κs = search needs
 
--- src/form.rt:38:9
 record-size-requires : tie.Need-record-size-requires
 record-size-requires c κs = search needs
 
--- src/form.rt:39:8
 most-rates-requires : tie.Need-most-rates-requires
 most-rates-requires c κs = search needs
 
--- src/form.rt:40:9
 returns-2 : tie.Need-returns-2
 returns-2 c =
     let z = c .before .before in
     too-many _ _ _ _ _ (z .before .rate-count .ensures .0) (z .record-size .ensures) (c .before .most-rates .ensures) (c .if2 .taken)
 
--- src/form.rt:43:9
 returns-3 : tie.Need-returns-3
 returns-3 c =
     let m = c .before .before in
     let z = m .before in
     too-short _ _ _ _ _ (z .before .rate-count .ensures .0) (z .record-size .ensures) (m .most-rates .ensures) (c .if3 .taken)
 
--- src/form.rt:45:24
 cast-tail : tie.Need-cast-tail
 cast-tail c = search needs
 
--- src/form.rt:45:16
 add-tail : tie.Need-add-tail
 add-tail c = search needs
 
--- src/form.rt:46:25
 sub-all-at-most : tie.Need-sub-all-at-most
 sub-all-at-most c = search needs
 
--- src/form.rt:46:25
 part-all-at-most-start : tie.Need-part-all-at-most-start
 part-all-at-most-start c = search needs
 
--- src/form.rt:46:25
 part-all-at-most-end : tie.Need-part-all-at-most-end
 part-all-at-most-end c = search needs
 
--- src/form.rt:46:5
 all-at-most-requires : tie.Need-all-at-most-requires
 all-at-most-requires c κs = search needs
 
--- src/form.rt:47:31
 sub-all-at-most-2 : tie.Need-sub-all-at-most-2
 sub-all-at-most-2 c = search needs
 
--- src/form.rt:47:31
 part-all-at-most-start-2 : tie.Need-part-all-at-most-start-2
 part-all-at-most-start-2 c = search needs
 
--- src/form.rt:47:31
 part-all-at-most-end-2 : tie.Need-part-all-at-most-end-2
 part-all-at-most-end-2 c = search needs
 
--- src/form.rt:47:11
 all-at-most-requires-2 : tie.Need-all-at-most-requires-2
 all-at-most-requires-2 c κs = search needs
 
--- src/form.rt:48:31
 sub-all-at-most-3 : tie.Need-sub-all-at-most-3
 unfolding sizeOf
 sub-all-at-most-3 c = omega arith
 
--- src/form.rt:48:31
 part-all-at-most-start-3 : tie.Need-part-all-at-most-start-3
 unfolding sizeOf
 part-all-at-most-start-3 c = omega arith
 
--- src/form.rt:48:31
 part-all-at-most-end-3 : tie.Need-part-all-at-most-end-3
 part-all-at-most-end-3 c = search needs
 
--- src/form.rt:48:11
 all-at-most-requires-3 : tie.Need-all-at-most-requires-3
 all-at-most-requires-3 c κs = search needs
 
--- src/form.rt:31:1
 returns-4 : tie.Need-returns-4
 returns-4 c =
     let a₂ = c .before .before in

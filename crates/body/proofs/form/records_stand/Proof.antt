@@ -1,21 +1,15 @@
+-- `form::records_stand` meets its contract. The invariant: what is left gives the whole answer. Assumes nothing.
 use borrow.Author.Needs.{needs}
-use Prim.Native.Nat.{ℕ, _≤_, _+_, _-_, _<_}
-use mathlib.Core.Path.{_≡_, _∙_, refl, sym, ap}
-use mathlib.Core.Bool.{true}
+use Prim.Native.Nat.{ℕ}
+use mathlib.Core.Path.{_≡_, _∙_, sym, ap}
 use native.Mathlib.Omega.{arith}
 use borrow.Author.Tests.{not-true, not-false}
 use denote.Ref.{now}
-use lib.ListN.{length}
-use Rattle.rules.specs.Body.{countOf, every}
+use Rattle.rules.specs.Body.{countOf}
 use Rattle.body.specs.Walk.{shaped}
 use Rattle.body.proofs.Walk.{whole, within, shape-end, shape-step, shape-stop}
 use Rattle.body.proofs.form.records_stand.Statement.{statement}
 use Rattle.body.proofs.form.records_stand.Tie as tie
-use Rattle.body.proofs.form.records_stand.Reads as reads
-use Rattle.body.proofs.form.records_stand.Lts as lts
-use Rattle.body.proofs.form.record_stands.Reads as record-stands-reads
-use Rattle.body.proofs.places.record_count.Reads as record-count-reads
-use Rattle.body.proofs.places.record_size.Reads as record-size-reads
 
 abbrev Inv-loop : tie.InvT-loop
 Inv-loop format s left₀ t₀ left t = shaped format (countOf format) s ≡ shaped format left t
@@ -23,53 +17,42 @@ Inv-loop format s left₀ t₀ left t = shaped format (countOf format) s ≡ sha
 abbrev μ-loop : tie.MeasureT-loop
 μ-loop format s left₀ t₀ left t = left
 
--- src/form.rt:55:9
 record-count-requires : tie.Need-record-count-requires Inv-loop μ-loop
 record-count-requires c κs = search needs
 
--- src/form.rt:57:5
 loop-holds : tie.Need-loop-holds Inv-loop μ-loop
 loop-holds c = ap (λ (k : ℕ). shaped (c .before .before .args .format) k (now (c .before .before .args .s))) (sym (c .record-count .ensures))
 
--- src/form.rt:58:13
 record-stands-requires : tie.Need-record-stands-requires Inv-loop μ-loop
 record-stands-requires c κs = search needs
 
--- src/form.rt:59:13
 returns : tie.Need-returns Inv-loop μ-loop
 returns c =
     let l = c .before .before .before in
     sym (l .loop .inv ∙ shape-stop _ _ _ (c .before .before .loop-test .taken) (sym (c .before .record-stands .ensures) ∙ not-true _ (c .if1 .taken)))
 
--- src/form.rt:61:13
 record-size-requires : tie.Need-record-size-requires Inv-loop μ-loop
 record-size-requires c κs = omega (arith, whole _ _ (sym (c .before .record-stands .ensures) ∙ not-false _ (c .if1 .left)) .room)
 
--- src/form.rt:62:13
 sub-t : tie.Need-sub-t Inv-loop μ-loop
 sub-t c =
     let e = c .before in
     within _ _ (whole _ _ (sym (e .before .record-stands .ensures) ∙ not-false _ (e .if1 .left))) (c .record-size .ensures)
 
--- src/form.rt:62:13
 part-t-start : tie.Need-part-t-start Inv-loop μ-loop
 part-t-start c =
     let e = c .before in
     within _ _ (whole _ _ (sym (e .before .record-stands .ensures) ∙ not-false _ (e .if1 .left))) (c .record-size .ensures)
 
--- src/form.rt:62:13
 part-t-end : tie.Need-part-t-end Inv-loop μ-loop
 part-t-end c = search needs
 
--- src/form.rt:63:9
 sub-left : tie.Need-sub-left Inv-loop μ-loop
 sub-left c = search needs
 
--- src/form.rt:57:5
 loop-less : tie.Need-loop-less Inv-loop μ-loop
 loop-less c = search needs
 
--- src/form.rt:57:5
 loop-again : tie.Need-loop-again Inv-loop μ-loop
 loop-again c =
     let z = c .before in
@@ -77,7 +60,6 @@ loop-again c =
     let l = e .before .before .before in
     l .loop .inv ∙ shape-step _ _ _ (e .before .before .loop-test .taken) (z .record-size .ensures) (sym (not-false _ (e .if1 .left)) ∙ e .before .record-stands .ensures)
 
--- src/form.rt:52:1
 returns-2 : tie.Need-returns-2 Inv-loop μ-loop
 returns-2 c = sym (c .before .loop .inv ∙ shape-end _ _ _ (c .loop-test .left))
 

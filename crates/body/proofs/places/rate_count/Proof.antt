@@ -1,56 +1,41 @@
-use Prim.Native.Nat.{ℕ, _≤_, _+_, _-_, _*_, _<_}
-use mathlib.Core.Path.{_≡_, _∙_, refl, sym, ap}
+-- `places::rate_count` meets its contract: two pairs and a digit. Assumes nothing.
 use native.Mathlib.Omega.{arith}
 use denote.Ref.{now}
 use Rattle.body.proofs.Parts.{rates-is}
 use borrow.Author.Needs.{needs}
 use Rattle.body.proofs.places.rate_count.Statement.{statement}
 use Rattle.body.proofs.places.rate_count.Tie as tie
-use Rattle.body.proofs.places.rate_count.Reads as reads
-use Rattle.body.proofs.places.rate_count.Lts as lts
-use Rattle.body.proofs.places.pair.Reads as pair-reads
 
--- src/places.rt:107:6
 pair-requires : tie.Need-pair-requires
 pair-requires c κs = search needs
 
--- src/places.rt:107:6
 mul-result : tie.Need-mul-result
 mul-result c = search needs
 
--- src/places.rt:107:42
 add-pair : tie.Need-add-pair
 add-pair c = search needs
 
--- src/places.rt:107:34
 pair-requires-2 : tie.Need-pair-requires-2
 pair-requires-2 c κs = search needs
 
--- src/places.rt:107:6
 add-result : tie.Need-add-result
 add-result c = search needs
 
--- src/places.rt:107:5
 mul-result-2 : tie.Need-mul-result-2
 mul-result-2 c = search needs
 
--- src/places.rt:107:68
 sub-result : tie.Need-sub-result
 sub-result c = search needs
 
--- src/places.rt:107:66
 shared-slice-read-result : tie.Need-shared-slice-read-result
 shared-slice-read-result c = search needs
 
--- src/places.rt:107:66
 cast-result : tie.Need-cast-result
 cast-result c = omega (arith, c .shared-slice-known2 .given 52)
 
--- src/places.rt:107:5
 add-result-2 : tie.Need-add-result-2
 add-result-2 c = omega (arith, c .shared-slice-known2 .given 52)
 
--- src/places.rt:102:1
 returns : tie.Need-returns
 returns c =
     let a = c .before .before .before .before in

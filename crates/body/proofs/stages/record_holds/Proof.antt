@@ -1,62 +1,42 @@
-use Prim.Native.Nat.{ℕ, _≤_, _+_, _-_, _*_, _<_}
-use mathlib.Core.Path.{_≡_, _∙_, refl, sym, ap}
-use native.Mathlib.Omega.{arith}
-use denote.Ref.{now}
+-- `stages::record_holds` meets its contract, stage by stage. Assumes nothing.
 use Rattle.body.proofs.Fields.{plant-fits}
 use borrow.Author.Needs.{needs}
 use Rattle.body.proofs.stages.record_holds.Statement.{statement}
 use Rattle.body.proofs.stages.record_holds.Tie as tie
-use Rattle.body.proofs.stages.record_holds.Reads as reads
-use Rattle.body.proofs.stages.record_holds.Lts as lts
-use Rattle.body.proofs.stages.checksum_holds.Reads as checksum-holds-reads
-use Rattle.body.proofs.stages.rates_hold.Reads as rates-hold-reads
-use Rattle.digits.proofs.same.Reads as same-reads
 
--- src/stages.rt:65:25
 enum-told : tie.Need-enum-told
 enum-told c = search needs
 
--- src/stages.rt:65:25
 rates-hold-requires : tie.Need-rates-hold-requires
 rates-hold-requires c κs = search needs
 
--- src/stages.rt:66:29
 enum-told-2 : tie.Need-enum-told-2
 enum-told-2 c = search needs
 
--- src/stages.rt:66:29
 checksum-holds-requires : tie.Need-checksum-holds-requires
 checksum-holds-requires c κs = search needs
 
--- src/stages.rt:67:39
 enum-told-3 : tie.Need-enum-told-3
 enum-told-3 c = search needs
 
--- src/stages.rt:67:39
 sub-same : tie.Need-sub-same
 sub-same c = search needs
 
--- src/stages.rt:67:39
 part-same-start : tie.Need-part-same-start
 part-same-start c = search needs
 
--- src/stages.rt:67:39
 part-same-end : tie.Need-part-same-end
 part-same-end c = search needs
 
--- src/stages.rt:67:26
 same-requires : tie.Need-same-requires
 same-requires c κs = search needs
 
--- src/stages.rt:60:1
 returns : tie.Need-returns
 returns c = rw (c .before .enum-told .given .1) (c .rates-hold .ensures)
 
--- src/stages.rt:60:1
 returns-2 : tie.Need-returns-2
 returns-2 c = rw (c .before .enum-told2 .given .1) (c .checksum-holds .ensures)
 
--- src/stages.rt:60:1
 returns-3 : tie.Need-returns-3
 returns-3 c = rw (c .before .before .enum-told3 .given .1) (plant-fits _ _ _ (c .same .ensures))
 

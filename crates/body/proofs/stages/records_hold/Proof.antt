@@ -1,21 +1,14 @@
+-- `stages::records_hold` meets its contract. The invariant: what is left has its form, and its records give the whole answer. Assumes nothing.
 use borrow.Author.Needs.{needs}
-use Prim.Native.Nat.{ℕ, _≤_, _+_, _-_, _<_}
-use mathlib.Core.Path.{_≡_, _∙_, refl, sym, ap}
+use mathlib.Core.Path.{_≡_, _∙_, refl, sym}
 use mathlib.Core.Bool.{true}
 use native.Mathlib.Omega.{arith}
 use borrow.Author.Tests.{not-true, not-false}
-use denote.Ref.{now}
-use lib.ListN.{length}
 use Rattle.rules.specs.Body.{countOf, every}
 use Rattle.body.specs.Walk.{shaped, recordsFrom, holds}
 use Rattle.body.proofs.Walk.{whole-first, within, shaped-rest, every-end, every-step, every-stop}
 use Rattle.body.proofs.stages.records_hold.Statement.{statement}
 use Rattle.body.proofs.stages.records_hold.Tie as tie
-use Rattle.body.proofs.stages.records_hold.Reads as reads
-use Rattle.body.proofs.stages.records_hold.Lts as lts
-use Rattle.body.proofs.places.record_count.Reads as record-count-reads
-use Rattle.body.proofs.places.record_size.Reads as record-size-reads
-use Rattle.body.proofs.stages.record_holds.Reads as record-holds-reads
 
 abbrev Inv-loop : tie.InvT-loop
 Inv-loop stage format plant s left₀ t₀ left t = (shaped format left t ≡ true) × (every (holds stage plant) (recordsFrom format (countOf format) s) ≡ every (holds stage plant) (recordsFrom format left t))
@@ -23,55 +16,44 @@ Inv-loop stage format plant s left₀ t₀ left t = (shaped format left t ≡ tr
 abbrev μ-loop : tie.MeasureT-loop
 μ-loop stage format plant s left₀ t₀ left t = left
 
--- src/stages.rt:76:9
 record-count-requires : tie.Need-record-count-requires Inv-loop μ-loop
 record-count-requires c κs = search needs
 
--- src/stages.rt:78:5
 loop-holds : tie.Need-loop-holds Inv-loop μ-loop
 loop-holds c =
     let k = sym (c .record-count .ensures) in
     (rw k at (c .before .before .before .pre), rw k refl)
 
--- src/stages.rt:79:13
 record-holds-requires : tie.Need-record-holds-requires Inv-loop μ-loop
 record-holds-requires c κs = whole-first _ _ _ (c .loop-test .taken) (c .before .loop .inv .0)
 
--- src/stages.rt:80:13
 returns : tie.Need-returns Inv-loop μ-loop
 returns c =
     let l = c .before .before .before in
     sym (l .loop .inv .1 ∙ every-stop _ _ _ _ (c .before .before .loop-test .taken) (sym (c .before .record-holds .ensures) ∙ not-true _ (c .if1 .taken)))
 
--- src/stages.rt:82:13
 record-size-requires : tie.Need-record-size-requires Inv-loop μ-loop
 record-size-requires c κs = omega (arith, whole-first _ _ _ (c .before .before .loop-test .taken) (c .before .before .before .loop .inv .0) .room)
 
--- src/stages.rt:83:13
 sub-t : tie.Need-sub-t Inv-loop μ-loop
 sub-t c =
     let t = c .before .before .before in
     within _ _ (whole-first _ _ _ (t .loop-test .taken) (t .before .loop .inv .0)) (c .record-size .ensures)
 
--- src/stages.rt:83:13
 part-t-start : tie.Need-part-t-start Inv-loop μ-loop
 part-t-start c =
     let t = c .before .before .before in
     within _ _ (whole-first _ _ _ (t .loop-test .taken) (t .before .loop .inv .0)) (c .record-size .ensures)
 
--- src/stages.rt:83:13
 part-t-end : tie.Need-part-t-end Inv-loop μ-loop
 part-t-end c = search needs
 
--- src/stages.rt:84:9
 sub-left : tie.Need-sub-left Inv-loop μ-loop
 sub-left c = search needs
 
--- src/stages.rt:78:5
 loop-less : tie.Need-loop-less Inv-loop μ-loop
 loop-less c = search needs
 
--- src/stages.rt:78:5
 loop-again : tie.Need-loop-again Inv-loop μ-loop
 loop-again c =
     let z = c .before in
@@ -82,7 +64,6 @@ loop-again c =
       l .inv .1 ∙ every-step _ _ _ _ (t .loop-test .taken) (z .record-size .ensures) (sym (e .before .record-holds .ensures) ∙ not-false _ (e .if1 .left)),
     )
 
--- src/stages.rt:72:1
 returns-2 : tie.Need-returns-2 Inv-loop μ-loop
 returns-2 c = sym (c .before .loop .inv .1 ∙ every-end _ _ _ _ (c .loop-test .left))
 

@@ -1,6 +1,6 @@
 -- `needed::end_month` meets its contract. Assumes nothing.
-use Prim.Native.Nat.{suc, _+_, _-_}
-use mathlib.Core.Path.{_≡_, sym, ap, _∙_}
+use Prim.Native.Nat.{suc, _-_}
+use mathlib.Core.Path.{sym, ap, _∙_}
 use native.Mathlib.Numerals.{add-one}
 use native.Mathlib.Omega.{arith}
 use borrow.Author.Needs.{needs}

@@ -1,5 +1,5 @@
 -- `needed::lacks` meets its contract. Assumes nothing.
-use mathlib.Core.Path.{_≡_, sym, ap, _∙_}
+use mathlib.Core.Path.{sym, ap, _∙_}
 use borrow.Author.Needs.{needs}
 use Rattle.rules.specs.Machine.{one}
 use Rattle.schedule.specs.Stored.{isNothing}

@@ -1,14 +1,12 @@
 -- `needed::missing` meets its contract. The loop's invariant: the months below this one that need a block are counted. Assumes nothing.
-use Prim.Native.Nat.{ℕ, _≤_, _<_, _+_, _-_, min, max}
+use Prim.Native.Nat.{_≤_, _<_, _+_, _-_, min, max}
 use mathlib.Core.Path.{_≡_, sym, ap, _∙_}
 use native.Mathlib.Omega.{arith}
 use borrow.Author.Needs.{needs}
 use Rattle.rules.specs.Calendar.{monthOfSlot}
 use Rattle.rules.specs.Machine.{one, countBelow}
-use Rattle.pool.specs.Blocks.{findOf}
-use Rattle.schedule.specs.Stored.{isNothing}
 use Rattle.schedule.specs.Rates.{endMonth}
-use Rattle.schedule.proofs.MissingLaws.{count-most, end-most, needs-block, missing-start, missing-step, missing-end}
+use Rattle.schedule.proofs.MissingLaws.{count-most, needs-block, missing-start, missing-step, missing-end}
 use Rattle.schedule.proofs.needed.missing.Statement.{statement}
 use Rattle.schedule.proofs.needed.missing.Tie as tie
 

@@ -1,6 +1,6 @@
 -- `putting::blank` meets its contract. The loop's invariant: below i every byte is 255. Assumes nothing.
 use Prim.Native.Nat.{_≤_, _-_}
-use mathlib.Core.Path.{_≡_, _∙_, refl, sym}
+use mathlib.Core.Path.{_≡_, refl}
 use mathlib.Core.List.{_++_}
 use native.Mathlib.Omega.{arith}
 use lib.ListN.{length, drop, replicate, length-set}

@@ -1,15 +1,13 @@
 -- `putting::put_month` meets its contract. Assumes nothing.
-use Prim.Native.Nat.{suc, _≤_, _<_, _+_, _-_, min, max}
-use mathlib.Core.Path.{_≡_, sym, ap, _∙_}
+use Prim.Native.Nat.{suc, _+_, _-_, min}
+use mathlib.Core.Path.{_≡_, ap, _∙_}
 use native.Mathlib.Numerals.{add-one}
-use native.Mathlib.Omega.{arith}
 use denote.Ref.{now}
 use lib.ListN.{length}
 use borrow.Author.Needs.{needs}
 use Rattle.rules.specs.Calendar.{firstSlot}
-use Rattle.schedule.specs.Stored.{putPiece}
 use Rattle.schedule.specs.Rates.{storedOf}
-use Rattle.schedule.proofs.PutLaws.{piece-is, piece-fits, piece-none}
+use Rattle.schedule.proofs.PutLaws.{piece-put, piece-fits, piece-none}
 use Rattle.schedule.proofs.putting.put_month.Statement.{statement}
 use Rattle.schedule.proofs.putting.put_month.Tie as tie
 
@@ -75,9 +73,7 @@ returns : tie.Need-returns
 returns c =
     let k = c .before .before .before .before .before .before in
     let a = start k .args in
-    c .before .before .put-piece .ensures
-    ∙ ap (λ q. putPiece (a .floor) q (storedOf (a .pool) (now (a .store))))
-    (sym (piece-is (a .month) (a .slot) _ _ _ (now (a .rates)) (k .before .before .before .first-slot .ensures) (k .before .before .greater .ensures) (high-is k) (c .before .before .before .before .before .if1 .taken)))
+    piece-put (a .month) (a .slot) _ _ _ (now (a .rates)) (k .before .before .before .first-slot .ensures) (k .before .before .greater .ensures) (high-is k) (a .floor) (storedOf (a .pool) (now (a .store))) _ (c .before .before .before .before .before .if1 .taken) (c .before .before .put-piece .ensures)
 
 returns-2 : tie.Need-returns-2
 returns-2 c =

@@ -1,8 +1,7 @@
 -- `putting::put_piece` meets its contract. Assumes nothing.
-use mathlib.Core.Path.{_≡_, sym, ap, _∙_}
+use mathlib.Core.Path.{sym}
 use denote.Ref.{now}
 use borrow.Author.Needs.{needs}
-use Rattle.schedule.specs.Stored.{layPiece}
 use Rattle.schedule.specs.Rates.{storedOf, pieceOf}
 use Rattle.schedule.proofs.PutLaws.{piece-in, piece-out}
 use Rattle.schedule.proofs.putting.put_piece.Statement.{statement}
@@ -22,9 +21,7 @@ returns c =
     let then = c .before .before .before .before .before .before .before .before in
     let a = then .before .before .before .args in
     let q = pieceOf (a .month) (a .from) (now (a .rates)) in
-    c .before .before .lay-piece .ensures
-    ∙ ap (layPiece q) (c .before .before .before .before .before .before .open-month .ensures)
-    ∙ sym (piece-in (a .floor) q (storedOf (a .pool) (now (a .store))) (then .if1 .taken))
+    piece-in (a .floor) q (storedOf (a .pool) (now (a .store))) _ _ (then .if1 .taken) (c .before .before .before .before .before .before .open-month .ensures) (c .before .before .lay-piece .ensures)
 
 returns-2 : tie.Need-returns-2
 returns-2 c =

@@ -1,16 +1,15 @@
 -- `putting::put_run` meets its contract. Assumes nothing.
-use Prim.Native.Nat.{ℕ, suc, _≤_, _+_}
+use Prim.Native.Nat.{_≤_}
 use mathlib.Core.Path.{_≡_, sym, ap, _∙_}
-use mathlib.Core.Bool.{true, false}
+use mathlib.Core.Bool.{true}
 use native.Mathlib.Omega.{arith}
 use denote.Ref.{now}
 use lib.ListN.{length}
 use borrow.Author.Needs.{needs}
 use borrow.Author.Tests.{not-true, not-false}
-use Rattle.rules.specs.Calendar.{monthOfSlot}
 use Rattle.rules.specs.Store.{storeLength}
 use Rattle.calendar.proofs.Laws.{slot-month-most}
-use Rattle.schedule.specs.Stored.{Stored, canPut, putRun, putPiece, pieceIn}
+use Rattle.schedule.specs.Stored.{Stored, canPut}
 use Rattle.schedule.specs.Rates.{storedOf}
 use Rattle.schedule.proofs.PutLaws.{run-not, run-is, can-long}
 use Rattle.schedule.proofs.putting.put_run.Statement.{statement}

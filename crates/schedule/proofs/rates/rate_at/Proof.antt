@@ -1,5 +1,5 @@
 -- `rates::rate_at` meets its contract. Assumes nothing.
-use Prim.Native.Nat.{ℕ, _≤_, _<_, _+_, _*_, _-_}
+use Prim.Native.Nat.{ℕ, _≤_, _<_, _-_}
 use mathlib.Core.Path.{_≡_, sym, ap, _∙_}
 use native.Mathlib.Omega.{arith}
 use denote.Ref.{now}
@@ -8,7 +8,7 @@ use borrow.Author.Needs.{needs}
 use Rattle.rules.specs.Calendar.{firstSlot, monthOfSlot}
 use Rattle.rules.specs.Store.{noRate, fromByte}
 use Rattle.pool.specs.Blocks.{findOf}
-use Rattle.pool.specs.declared.Found.the-variants.{At, Nothing}
+use Rattle.pool.specs.declared.Found.the-variants.{At}
 use Rattle.schedule.specs.Stored.{place}
 use Rattle.schedule.specs.Rates.{rateOption}
 use Rattle.schedule.proofs.RateLaws.{slot-from, find-below, rate-found, rate-nothing}

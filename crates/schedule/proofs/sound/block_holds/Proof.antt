@@ -1,6 +1,6 @@
 -- `sound::block_holds` meets its contract: the month's end lies within the block. Assumes nothing.
 use Prim.Native.Nat.{_≤_, _*_}
-use mathlib.Core.Path.{_≡_, sym, ap, _∙_}
+use mathlib.Core.Path.{sym}
 use native.Mathlib.Omega.{arith}
 use denote.Ref.{now}
 use lib.ListN.{length}
@@ -30,10 +30,10 @@ all-rates-requires : tie.Need-all-rates-requires
 all-rates-requires c κs = search needs
 
 sub-all-blank : tie.Need-sub-all-blank
-sub-all-blank c = within (c .before .before)
+sub-all-blank c = omega (arith, within (c .before .before))
 
 part-all-blank-start : tie.Need-part-all-blank-start
-part-all-blank-start c = within (c .before .before)
+part-all-blank-start c = omega (arith, within (c .before .before))
 
 part-all-blank-end : tie.Need-part-all-blank-end
 part-all-blank-end c = search needs

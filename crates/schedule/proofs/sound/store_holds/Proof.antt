@@ -1,12 +1,10 @@
 -- `sound::store_holds` meets its contract. The loop's invariant: the flag says that the held blocks below b are sound. Assumes nothing.
 use Prim.Native.Nat.{_≤_, _-_}
-use mathlib.Core.Path.{_≡_, sym, ap, _∙_}
-use mathlib.Core.Bool.{Bool, _&&_}
+use mathlib.Core.Path.{_≡_}
 use native.Mathlib.Omega.{arith}
 use denote.Ref.{now}
 use Rattle.rules.specs.Store.{soundStore}
 use Rattle.pool.specs.Held.{heldBelow}
-use Rattle.schedule.specs.Rates.{placeHolds}
 use Rattle.schedule.proofs.StoreLaws.{store-none, store-step, store-end, store-other}
 use Rattle.schedule.proofs.sound.store_holds.Statement.{statement}
 use Rattle.schedule.proofs.sound.store_holds.Tie as tie

@@ -1,0 +1,167 @@
+// The lister's line (01, Beside the unit): what it prints for a name, byte 0A and a body.
+ghost use mathlib.Core.Path.{_≡_};
+ghost use Prim.Native.Nat.{_+_, _<_, _≤_, min};
+ghost use mathlib.Core.List.{[], _∷_, _++_};
+ghost use lib.ListN.{length};
+ghost use Rattle.rules.specs.Causes.{numberOf};
+ghost use Rattle.rules.specs.Lister.{namePart, numeral, line};
+ghost use Rattle.rules.specs.Name.{formatNumber};
+ghost use Rattle.listing.specs.Line.{room, lineIn, putIn, puts, okText, refusedText, textOf, Printable};
+use body::Reading;
+use rules::Cause;
+use rules::Format;
+
+// As many bytes as a line has room for.
+const ROOM: usize = 20;
+
+// Ends a line, and parts name and body.
+const NEW_LINE: u8 = 10;
+
+// How the two kinds of line begin, filled up with zeros.
+const OK: [u8; ROOM] = *b"ok \0\0\0\0\0\0\0\0\0\0\0\0\0\0\0\0\0";
+
+const REFUSED: [u8; ROOM] = *b"refused \0\0\0\0\0\0\0\0\0\0\0\0";
+
+// A line: its bytes, then zeros, and its length.
+pub struct Line {
+    pub bytes: [u8; ROOM],
+    pub length: usize,
+}
+
+// The line with a byte more.
+fn put(mut line: Line, byte: u8) -> Line
+    requires { ⌜ line .length < room ⌝ }
+    ensures { λ r. ⌜ r ≡ putIn line byte ⌝ }
+{
+    let at = line.length;
+    line.bytes[at] = byte;
+    line.length = at + 1;
+    line
+}
+
+// The line with a number more, in ASCII without zeros before it.
+fn number(line: Line, n: u32) -> Line
+    requires { ⌜ line .length + length (numeral n) ≤ room ⌝ }
+    ensures { λ r. ⌜ r ≡ puts line (numeral n) ⌝ }
+{
+    let last = (n % 10) as u8 + b'0';
+    if n < 10 {
+        return put(line, last);
+    }
+    put(number(line, n / 10), last)
+}
+
+// The line with a number more, and the byte behind it.
+fn field(line: Line, n: u32, behind: u8) -> Line
+    requires { ⌜ line .length + length (numeral n) < room ⌝ }
+    ensures { λ r. ⌜ r ≡ puts line (numeral n ++ (behind ∷ [])) ⌝ }
+{
+    put(number(line, n), behind)
+}
+
+// `ok`, format, records and total rates.
+fn ok_line(format: u32, records: u32, rates: u32) -> Line
+    requires { ⌜ (format < 1000) × (records < 100) × (rates < 100000) ⌝ }
+    ensures { λ r. ⌜ r ≡ lineIn (okText format records rates) ⌝ }
+{
+    let start = Line {
+        bytes: OK,
+        length: 3,
+    };
+    let with_format = field(start, format, b' ');
+    let with_records = field(with_format, records, b' ');
+    field(with_records, rates, NEW_LINE)
+}
+
+// `refused` and the cause's number.
+fn refused_line(cause: u32) -> Line
+    requires { ⌜ cause < 100 ⌝ }
+    ensures { λ r. ⌜ r ≡ lineIn (refusedText cause) ⌝ }
+{
+    let start = Line {
+        bytes: REFUSED,
+        length: 8,
+    };
+    field(start, cause, NEW_LINE)
+}
+
+// Where the name ends: the place of the first 0A, or the length where there is none.
+fn name_end(input: &[u8]) -> usize
+    ensures { λ r. ⌜ r ≡ length (namePart (now (input .entry))) ⌝ }
+{
+    let mut i = 0;
+    while i < input.len() {
+        if input[i] == NEW_LINE {
+            return i;
+        }
+        i += 1;
+    }
+    i
+}
+
+// Where the body begins: past the 0A, or at the end where there is none.
+fn body_start(end: usize, length: usize) -> usize
+    requires { ⌜ end ≤ length ⌝ }
+    ensures { λ r. ⌜ r ≡ min (end + 1) length ⌝ }
+{
+    if end < length { end + 1 } else { end }
+}
+
+// 01's number of a format.
+fn format_number(format: Format) -> u32
+    ensures { λ r. ⌜ r ≡ formatNumber format ⌝ }
+{
+    match format {
+        Format::F201 => 201,
+        Format::F202 => 202,
+        Format::F203 => 203,
+        Format::F301 => 301,
+    }
+}
+
+// 01's number of a cause.
+fn cause_number(cause: Cause) -> u32
+    ensures { λ r. ⌜ r ≡ numberOf cause ⌝ }
+{
+    match cause {
+        Cause::PlantId => 1,
+        Cause::Setting => 2,
+        Cause::StoreLength => 3,
+        Cause::Unsound => 4,
+        Cause::ClockUnset => 5,
+        Cause::Range => 6,
+        Cause::Name => 7,
+        Cause::OtherPlant => 8,
+        Cause::Form => 9,
+        Cause::Date => 10,
+        Cause::Rate => 11,
+        Cause::Checksum => 12,
+        Cause::RecordPlant => 13,
+        Cause::Full => 14,
+        Cause::Buffer => 15,
+        Cause::ErrorFile => 16,
+    }
+}
+
+// The line of what was read, or of the cause of its refusal.
+fn reading_line(reading: Reading) -> Line
+    requires { ⌜ Printable reading ⌝ }
+    ensures { λ r. ⌜ r ≡ lineIn (textOf reading) ⌝ }
+{
+    match reading {
+        Reading::Read(file) => {
+            let format = file.format;
+            ok_line(format_number(format), file.records, file.rates)
+        }
+        Reading::Refused(cause) => refused_line(cause_number(cause)),
+    }
+}
+
+// What the lister prints for its input.
+pub fn line_of(input: &[u8]) -> Line
+    ensures { λ r. ⌜ r ≡ lineIn (line (now (input .entry))) ⌝ }
+{
+    let end = name_end(input);
+    let start = body_start(end, input.len());
+    reading_line(transfer::read(&input[..end], &input[start..]))
+}

@@ -1,0 +1,88 @@
+-- `unit::Unit::tick` meets its contract. Assumes nothing.
+use mathlib.Core.Path.{_≡_, sym, ap, ap₂, _∙_}
+use mathlib.Core.Bool.{Bool, true, _&&_}
+use borrow.Author.Tests.{not-true, not-false}
+use denote.Ref.{now}
+use Rattle.rules.specs.declared.Answer.{Answer}
+use Rattle.schedule.specs.Stored.{storeHolds}
+use Rattle.unit.specs.Values.{isSound}
+use Rattle.unit.specs.declared.Unit.{Unit}
+use Rattle.unit.proofs.Seconds.{jumped}
+use Rattle.unit.proofs.TickLaws.{tick-length, tick-unsound, tick-range, tick-done}
+use borrow.Author.Needs.{needs}
+use Rattle.unit.proofs.Unit.tick.Statement.{statement}
+use Rattle.unit.proofs.Unit.tick.Tie as tie
+
+refuse-requires : tie.Need-refuse-requires
+refuse-requires c κs = search needs
+
+returns : tie.Need-returns
+returns c = c .refuse .ensures ∙ sym (tick-length _ _ _ (c .before .if1 .taken))
+
+sound-requires : tie.Need-sound-requires
+sound-requires c κs = search needs
+
+store-holds-requires : tie.Need-store-holds-requires
+store-holds-requires c κs = search needs
+
+-- what the code tests
+tested : (c : tie.After-store-holds) → (c .before .sound .result && c .store-holds .result)
+    ≡ (isSound (c .before .before .before .before .before .args .self) && storeHolds (c .before .before .before .before .before .args .self .pool) (now (c .before .before .before .before .before .args .store)))
+tested c = ap₂ _&&_ (c .before .sound .ensures) (c .store-holds .ensures)
+
+refuse-requires-2 : tie.Need-refuse-requires-2
+refuse-requires-2 c κs = search needs
+
+returns-2 : tie.Need-returns-2
+returns-2 c =
+    let h = c .before .before in
+    c .refuse2 .ensures ∙ sym (tick-unsound _ _ _ (h .before .before .before .if1 .left) (sym (tested h) ∙ not-true _ (c .before .if2 .taken)))
+
+cast-if3 : tie.Need-cast-if3
+cast-if3 c = search needs
+
+refuse-requires-3 : tie.Need-refuse-requires-3
+refuse-requires-3 c κs = search needs
+
+-- the unit and the store are sound
+good : (c : tie.Else2) → (isSound (c .before .before .before .before .before .before .args .self) && storeHolds (c .before .before .before .before .before .before .args .self .pool) (now (c .before .before .before .before .before .before .args .store))) ≡ true
+good c = sym (tested (c .before)) ∙ not-false _ (c .if2 .left)
+
+returns-3 : tie.Need-returns-3
+returns-3 c =
+    let e = c .before .before in
+    c .refuse3 .ensures ∙ sym (tick-range _ _ _ (e .before .before .before .before .if1 .left) (good e) (c .before .if3 .taken))
+
+cast-second : tie.Need-cast-second
+cast-second c = search needs
+
+command-at-requires : tie.Need-command-at-requires
+command-at-requires c κs = search needs
+
+set-clock-requires : tie.Need-set-clock-requires
+set-clock-requires c κs = search needs
+
+returns-4 : tie.Need-returns-4
+returns-4 c =
+    let e = c .before .before .before in
+    let a = e .before .before .before .before .before .before .args in
+    ap (λ (v : Unit). record { unit = v; answer = Answer.Accepted }) (c .set-clock .ensures ∙ ap (jumped (a .self) (a .t)) (c .before .command-at .ensures))
+    ∙ sym (tick-done _ _ _ (e .before .before .before .before .if1 .left) (good e) (c .before .before .if3 .left))
+
+pub tick-spec : {M : Type 1} → statement M
+tick-spec =
+    tie.close
+    (tie.spec
+    refuse-requires
+    returns
+    sound-requires
+    store-holds-requires
+    refuse-requires-2
+    returns-2
+    cast-if3
+    refuse-requires-3
+    returns-3
+    cast-second
+    command-at-requires
+    set-clock-requires
+    returns-4)

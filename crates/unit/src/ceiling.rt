@@ -1,0 +1,41 @@
+// The ceiling of a slot.
+ghost use mathlib.Core.Path.{_≡_};
+ghost use Rattle.unit.specs.Calls.{ceilingOf};
+use crate::Clock;
+use crate::Unit;
+use rules::Cause;
+use rules::Ceiling;
+use schedule::StoredRate;
+
+// 'Slot not below 1,753,200'.
+const SLOTS: u64 = 36525 * 48;
+
+impl Unit {
+    // The rate and the percent of a slot, where it has one.
+    pub fn ceiling(self, slot: u64, store: &[u8]) -> Ceiling
+        ensures { λ r. ⌜ r ≡ ceilingOf self (now (store .entry)) slot ⌝ }
+    {
+        if store.len() != Unit::STORE_LENGTH {
+            return Ceiling::Refused(Cause::StoreLength);
+        }
+        let plant = self.plant;
+        let pool = self.pool;
+        if !(self.sound() & schedule::store_holds(pool, store)) {
+            return Ceiling::Refused(Cause::Unsound);
+        }
+        let clock = self.clock;
+        let Clock::At(_) = clock else {
+            return Ceiling::Refused(Cause::ClockUnset);
+        };
+        if SLOTS <= slot {
+            return Ceiling::Refused(Cause::Range);
+        }
+        match schedule::rate_at(pool, store, slot as u32) {
+            StoredRate::Rate(rate) => Ceiling::Rated {
+                rate,
+                percent: plant.percent(rate),
+            },
+            StoredRate::NoRate => Ceiling::NoRate,
+        }
+    }
+}

@@ -1,0 +1,44 @@
+#!/usr/bin/env bash
+# Runs the built lister on inputs made from document 01, and compares the lines that it prints.
+set -u
+cd "$(dirname "$0")/.." || exit 1
+lister=target/bin/lister
+if [ ! -x "$lister" ]; then
+    echo "error: $lister is missing: \`rt check\` builds it"
+    echo '0 passed, 1 failed'
+    exit 1
+fi
+folder=$(mktemp -d) || exit 1
+trap 'rm -rf "$folder"' EXIT
+if ! python3 tests/lister_inputs.py "$folder"; then
+    echo 'error: the inputs were not written'
+    echo '0 passed, 1 failed'
+    exit 1
+fi
+passed=0
+failed=0
+
+# same CASE STATUS: whether the lister ended well and wrote the case's line, byte for byte, and nothing else.
+same() {
+    if [ "$2" -eq 0 ] && cmp -s "$folder/wrote" "$folder/$1.line" && [ ! -s "$folder/said" ]; then
+        passed=$((passed + 1))
+    else
+        printf 'FAILED %s: expected `%s`, got `%s` (status %d) %s\n' "$1" "$(cat "$folder/$1.line")" "$(head -c 200 "$folder/wrote")" "$2" "$(head -c 200 "$folder/said")"
+        failed=$((failed + 1))
+    fi
+}
+
+for input in "$folder"/*.input; do
+    case=$(basename "$input" .input)
+    "$lister" <"$input" >"$folder/wrote" 2>"$folder/said"
+    same "$case" "$?"
+done
+
+# from a pipe the input comes in parts, some of them short
+for case in example-10 yearly-of-19681-bytes longest-body longest-body-and-a-byte; do
+    { head -c 40; sleep 0.1; cat; } <"$folder/$case.input" | "$lister" >"$folder/wrote" 2>"$folder/said"
+    same "$case" "${PIPESTATUS[1]}"
+done
+
+printf '%d passed, %d failed\n' "$passed" "$failed"
+[ "$failed" -eq 0 ] && [ "$passed" -gt 0 ]
