@@ -30,7 +30,7 @@ module _ (p : Plant) (valid : validPlant p ≡ true) where
       go true e = agrees (test-same _ _ e) (fresh-agrees freshPool store refl refl (test-same _ _ e))
       go false e = apart (test-other _ _ e) refl refl refl refl
 
-  fresh-follows : (store : List ℕ) → Follows p (length store) (fresh p store) freshMachine
+  pub fresh-follows : (store : List ℕ) → Follows p (length store) (fresh p store) freshMachine
   unfolding freshUnit freshMachine soundRequests
   fresh-follows store = record {
     plant = refl;

@@ -7,3 +7,6 @@ pub mod UnitLaws
 pub mod Steps
 pub mod Taking
 pub mod EveryList
+pub mod Acceptance
+pub mod Refusals
+pub mod Sentences

@@ -1,9 +1,9 @@
 -- Values that may be missing, and numbers that a test compared.
 use Prim.Native.Nat.{ℕ}
-use mathlib.Core.Bool.{true, false}
+use mathlib.Core.Bool.{Bool, true, false, true≢false}
 use lib.Dec.{eqb}
 use borrow.Author.Tests.{eqb-true, eqb-false}
-use mathlib.Core.Path.{_≡_}
+use mathlib.Core.Path.{_≡_, sym, _∙_}
 use mathlib.Core.Option.{Option, none, some, Option·some-injective, Option·none-ne-some, Option·some-ne-none}
 
 pub none-some : (d : ℕ) → _≡_ {A = Option ℕ} none (some d) → ⊥
@@ -20,3 +20,6 @@ test-same a b e = eqb-true a b e
 
 pub test-other : (a b : ℕ) → eqb a b ≡ false → a ≡ b → ⊥
 test-other a b e = eqb-false a b e
+
+pub not-both : (b : Bool) → b ≡ true → b ≡ false → ⊥
+not-both b e f = true≢false (sym e ∙ f)

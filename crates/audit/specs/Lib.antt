@@ -1,1 +1,4 @@
 pub mod Theorem
+pub mod Acceptance
+pub mod Refusals
+pub mod Sentences
