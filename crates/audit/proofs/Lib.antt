@@ -7,6 +7,8 @@ pub mod UnitLaws
 pub mod Steps
 pub mod Taking
 pub mod EveryList
+pub mod Ahead
+pub mod Ticks
 pub mod Acceptance
 pub mod Refusals
 pub mod Sentences

@@ -1,4 +1,5 @@
 pub mod Theorem
+pub mod Ticks
 pub mod Acceptance
 pub mod Refusals
 pub mod Sentences

@@ -9,10 +9,11 @@ use native.Mathlib.Nat.{add-zero, add-suc}
 use native.Mathlib.Omega.{arith}
 use lib.ListN.{length, getElem?, take, drop, length-drop}
 use lib.Seq.{drop-drop, take-all, drop-append-le}
-use Rattle.rules.specs.Digits.{part, valueFrom}
+use Rattle.rules.specs.Digits.{part, valueFrom, decimal}
+use Rattle.rules.specs.Name.{Name}
 use Rattle.rules.specs.Calendar.{firstSlot, slotsOfMonth, monthAt, secondsOf, wholeMinute}
-use Rattle.rules.specs.Body.{Record, countOf, tailDigits, ratesOf, sizeOf, recordShape, recordAt, parseRest, parseBody, counted, every, isSchedule}
-use Rattle.rules.specs.File.{wholeMonth, monthsFrom, recordDates, withBody, startOf}
+use Rattle.rules.specs.Body.{Record, countOf, tailDigits, ratesOf, sizeOf, recordShape, recordAt, parseRest, parseBody, counted, every, isSchedule, schedule}
+use Rattle.rules.specs.File.{wholeMonth, monthsFrom, recordDates, withBody, startOf, file, datesHold, ratesHold, checksumsHold, plantsHold, stages}
 use Rattle.rules.specs.Lister.{totalRates}
 use Rattle.rules.specs.declared.Format.{Format}
 use Rattle.calendar.proofs.Laws.{first-slot-step}
@@ -26,7 +27,7 @@ use Rattle.body.proofs.Walk.{whole}
 use Rattle.dates.proofs.Numbers.{same-eq}
 use Rattle.dates.proofs.Starts.{year-whole, month-whole}
 use Rattle.body.proofs.Starts.{rates-full, MonthFacts, month-facts}
-use Rattle.body.proofs.Outcomes.{answer, schedule-is, no-form, no-count, with-rest}
+use Rattle.body.proofs.Outcomes.{answer, dates-same, rest-is, schedule-is, no-form, no-count, with-rest}
 
 -- ---- where the records stand
 
@@ -179,3 +180,18 @@ accepted-is f segment plant body x i e = counts (counted f body) refl
     counts false c =
         let no = no-count f (nameOf f segment plant) body (sym c) in
         absurd (let z : _≡_ {A = ℕ} 0 1 = cc in omega arith)
+
+-- the file that is accepted, under a name of any creation time
+pub file-is : (f : Format) (segment : ℕ) (plant body created : List ℕ) (x : Summary) → isSchedule f ≡ true → Accepted f segment plant body x
+    → withBody (record { format = f; segment = decimal 4 segment; plant = plant; created = created }) (parseBody f body)
+    ≡ file
+    (record {
+      name = record { format = f; segment = decimal 4 segment; plant = plant; created = created };
+      body = schedule (recordsFrom f (countOf f) (drop 6 body));
+    })
+unfolding parseBody stages datesHold ratesHold checksumsHold plantsHold
+file-is f segment plant body created x i a =
+    let n : Name = record { format = f; segment = decimal 4 segment; plant = plant; created = created } in
+    let rs = recordsFrom f (countOf f) (drop 6 body) in
+    let d : recordDates n f rs ≡ true = dates-same f n (nameOf f segment []) rs refl ∙ a .dates in
+    rw (a .counts, rest-is f segment plant (drop 6 body) i, a .form, d, a .rates, a .checksums, a .plants) refl

@@ -6,3 +6,4 @@ pub mod Starts
 pub mod Kept
 pub mod Outcomes
 pub mod Laws
+pub mod Examples

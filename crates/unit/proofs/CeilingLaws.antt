@@ -1,19 +1,17 @@
 -- What ceiling answers at each of its returns. Assumes nothing.
 use Prim.Native.Nat.{ℕ, _≤_, _<_}
-use mathlib.Core.Path.{_≡_, _∙_, refl, sym, ap}
-use mathlib.Core.Bool.{Bool, true, false, _&&_}
+use mathlib.Core.Path.{_≡_, _∙_, refl, ap}
+use mathlib.Core.Bool.{true, false, _&&_}
 use mathlib.Core.List.{List}
 use mathlib.Core.Option.{Option, none, some}
-use lib.Dec.{eqb, ltb}
 use lib.ListN.{length}
 use borrow.Author.Tests.{eq-eqb, ne-eqb, lt-ltb, le-ltb}
 use Rattle.rules.specs.Calendar.{slotCount}
 use Rattle.rules.specs.Plant.{Settings, percent}
-use Rattle.rules.specs.Store.{storeLength, soundStore}
+use Rattle.rules.specs.Store.{storeLength}
 use Rattle.rules.specs.declared.Cause.{Cause}
 use Rattle.rules.specs.declared.Ceiling.{Ceiling}
 use Rattle.plant.specs.Plant.{settingsOf}
-use Rattle.pool.specs.Held.{heldOf}
 use Rattle.schedule.specs.Stored.{storeHolds, storedRate}
 use Rattle.schedule.specs.Rates.{rateOption}
 use Rattle.schedule.specs.declared.rates.StoredRate.the-variants.{Rate, NoRate}

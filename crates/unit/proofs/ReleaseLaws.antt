@@ -1,18 +1,18 @@
 -- Giving blocks back: twice is once, what is left is found as before and is sound, and a sound store gives no rate above 100.
 -- Assumes nothing.
-use Prim.Native.Nat.{ℕ, zero, suc, _+_, _-_, _*_, _/_, _^_, _≤_, _<_, max, zero-le}
-use native.Mathlib.Nat.{le-of-suc-le-suc, eq-or-lt-of-le, le-trans, max-le}
+use Prim.Native.Nat.{ℕ, zero, suc, _+_, _-_, _*_, _/_, _^_, _≤_, _<_, zero-le}
+use native.Mathlib.Nat.{le-of-suc-le-suc, eq-or-lt-of-le, max-le}
 use native.Mathlib.Omega.{arith}
 use mathlib.Core.Path.{_≡_, _∙_, refl, sym, ap, ap₂}
-use mathlib.Core.Logic.{_⊎_, inl, inr, ⊎-elim}
-use mathlib.Core.Bool.{Bool, true, false, cond, not, _&&_, _||_, false≢true}
+use mathlib.Core.Logic.{_⊎_, inl, inr}
+use mathlib.Core.Bool.{Bool, true, false, cond, _&&_, _||_, false≢true}
 use mathlib.Core.List.{List, [], _∷_}
-use mathlib.Core.Option.{Option, none, some}
+use mathlib.Core.Option.{none, some}
 use lib.Dec.{leb, ltb, eqb}
-use lib.ListN.{length, getD, take, drop}
+use lib.ListN.{getD, take, drop}
 use lib.Seq.{getD-take, getD-drop}
-use borrow.Author.Tests.{lt-ltb, le-ltb, ltb-true, ltb-false, leb-true}
-use Rattle.rules.specs.Calendar.{slotOf, monthOf as monthOfSecond, monthOfSlot, firstSlot, slotsOfMonth, daysOfMonth}
+use borrow.Author.Tests.{lt-ltb, le-ltb, ltb-true, leb-true}
+use Rattle.rules.specs.Calendar.{slotOf, monthOf as monthOfSecond, monthOfSlot, firstSlot, slotsOfMonth}
 use Rattle.rules.specs.Store.{noRate, fromByte, all, blockOf, soundBlock, soundStore}
 use Rattle.rules.specs.Machine.{raisedFloor, orZero}
 use Rattle.calendar.proofs.Laws.{days-range, first-slot-step, slot-month-from, slot-month-until, slot-month-monotone, month-slot}

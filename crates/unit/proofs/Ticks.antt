@@ -2,14 +2,14 @@
 use Prim.Native.Nat.{ℕ, zero, suc, _+_, _-_, _≤_, _<_}
 use native.Mathlib.Omega.{arith}
 use mathlib.Core.Path.{_≡_, _∙_, refl, sym, ap}
-use mathlib.Core.List.{List, [], _∷_}
+use mathlib.Core.List.{List, _∷_}
 use lib.ListN.{length, replicate}
 use borrow.Author.Tests.{lt-leb}
 use Rattle.rules.specs.Calendar.{endOfTime}
 use Rattle.rules.specs.Store.{storeLength}
 use Rattle.rules.specs.declared.Answer.{Answer}
 use Rattle.unit.specs.Calls.{setClock, withCommand, second, seconds, tickFrom, ticked, tickOf}
-use Rattle.unit.specs.Ticks.{tickEach, tickAnswers, OneTick, TicksAgree}
+use Rattle.unit.specs.Ticks.{tickEach, tickAnswers, TicksAgree}
 use Rattle.unit.specs.declared.Unit.{Unit}
 use Rattle.unit.specs.declared.Done.{Done}
 use Rattle.unit.specs.declared.Clock.{Clock}

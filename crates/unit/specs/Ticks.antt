@@ -7,7 +7,6 @@ use Rattle.rules.specs.declared.Answer.{Answer}
 use Rattle.ramp.specs.Command.{commandAfter}
 use Rattle.unit.specs.Calls.{tickOf}
 use Rattle.unit.specs.declared.Unit.{Unit}
-use Rattle.unit.specs.declared.Done.{Done}
 use Rattle.unit.specs.declared.Clock.{Clock}
 use Rattle.unit.specs.declared.Clock.the-variants.{Unset, At}
 

@@ -1,8 +1,4 @@
 -- `unit::Unit::command_at` meets its contract. Assumes nothing.
-use mathlib.Core.Path.{_≡_, sym, ap, _∙_}
-use denote.Ref.{now}
-use Rattle.unit.specs.Ticks.{commandAt}
-use Rattle.unit.specs.declared.Clock.{Clock}
 use borrow.Author.Needs.{needs}
 use Rattle.unit.proofs.Unit.command_at.Statement.{statement}
 use Rattle.unit.proofs.Unit.command_at.Tie as tie
