@@ -8,3 +8,9 @@ demo:
 # Proves every crate and runs every test; ends in `N passed, 0 failed`.
 test:
 	@scripts/test
+
+# Times reading beside a fast Rust reader; judges nothing.
+bench:
+	@mkdir -p target
+	@rt staticlib boundary >target/bench.log 2>&1 || { cat target/bench.log; exit 1; }
+	@CARGO_TARGET_DIR=$(CURDIR)/target/cargo cargo run --quiet --release --offline --locked --manifest-path tests/Cargo.toml --features linked --bin bench
