@@ -78,7 +78,7 @@ fn access_at(format: Format, s: &[u8]) -> u32
 }
 
 // The rates are what `s` has beside the other fields of its records.
-pub fn schedule_summary(format: Format, segment: u16, s: &[u8]) -> Summary
+pub(crate) fn schedule_summary(format: Format, segment: u16, s: &[u8]) -> Summary
     requires { ⌜ isSchedule format ≡ true ⌝ }
     requires { ⌜ shaped format (countOf format) (now s) ≡ true ⌝ }
     requires { ⌜ recordDates (nameOf format segment []) format (recordsFrom format (countOf format) (now s)) ≡ true ⌝ }

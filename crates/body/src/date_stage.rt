@@ -58,7 +58,7 @@ fn update_dates_hold(s: &[u8]) -> bool
 }
 
 // Whether the dates and rate counts of the records in `s` keep the rules of the format.
-pub fn dates_hold(format: Format, segment: u16, s: &[u8]) -> bool
+pub(crate) fn dates_hold(format: Format, segment: u16, s: &[u8]) -> bool
     requires { ⌜ shaped format (countOf format) (now s) ≡ true ⌝ }
     ensures { λ r. ⌜ r ≡ recordDates (nameOf format segment []) format (recordsFrom format (countOf format) (now (s .entry))) ⌝ }
 {

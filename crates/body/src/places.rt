@@ -118,7 +118,7 @@ pub fn is_schedule(format: Format) -> bool
 }
 
 // Two digits as a number.
-pub fn pair(s: &[u8], i: usize) -> u32
+pub(crate) fn pair(s: &[u8], i: usize) -> u32
     requires { ⌜ i + 2 ≤ length (now s) ⌝ }
     ensures exact { λ r. ⌜ r ≡ value (part (now (s .entry)) i 2) ⌝ }
     ensures bound { λ r. ⌜ r ≤ 2805 ⌝ }
@@ -127,7 +127,7 @@ pub fn pair(s: &[u8], i: usize) -> u32
 }
 
 // The rate count of the record at the front of `s`.
-pub fn rate_count(s: &[u8]) -> u32
+pub(crate) fn rate_count(s: &[u8]) -> u32
     requires { ⌜ 53 ≤ length (now s) ⌝ }
     ensures exact { λ r. ⌜ r ≡ ratesOf (now (s .entry)) ⌝ }
     ensures bound { λ r. ⌜ r ≤ 2833305 ⌝ }
@@ -136,7 +136,7 @@ pub fn rate_count(s: &[u8]) -> u32
 }
 
 // How long the record at the front of `s` is.
-pub fn record_size(format: Format, s: &[u8]) -> usize
+pub(crate) fn record_size(format: Format, s: &[u8]) -> usize
     requires { ⌜ 53 ≤ length (now s) ⌝ }
     ensures { λ r. ⌜ r ≡ sizeOf format (now (s .entry)) ⌝ }
 {

@@ -70,7 +70,7 @@ fn record_holds(stage: Stage, format: Format, plant: &[u8], s: &[u8]) -> bool
 }
 
 // Whether every record in `s` passes the stage.
-pub fn records_hold(stage: Stage, format: Format, plant: &[u8], s: &[u8]) -> bool
+pub(crate) fn records_hold(stage: Stage, format: Format, plant: &[u8], s: &[u8]) -> bool
     requires { ⌜ shaped format (countOf format) (now s) ≡ true ⌝ }
     ensures { λ r. ⌜ r ≡ every (holds stage (now (plant .entry))) (recordsFrom format (countOf format) (now (s .entry))) ⌝ }
 {

@@ -19,7 +19,7 @@ fn copy(to: &mut [u8], from: &[u8])
 }
 
 // The bytes of `s`.
-pub fn put(out: &mut [u8], at: usize, s: &[u8]) -> usize
+pub(crate) fn put(out: &mut [u8], at: usize, s: &[u8]) -> usize
     requires { ⌜ at + length (now s) ≤ length (now out) ⌝ }
     ensures { λ r. ⌜ Put (now (out .entry)) at (now (s .entry)) (now (out .exit)) r ⌝ }
 {
@@ -29,7 +29,7 @@ pub fn put(out: &mut [u8], at: usize, s: &[u8]) -> usize
 }
 
 // One byte.
-pub fn put_byte(out: &mut [u8], at: usize, byte: u8) -> usize
+pub(crate) fn put_byte(out: &mut [u8], at: usize, byte: u8) -> usize
     requires { ⌜ at < length (now out) ⌝ }
     ensures { λ r. ⌜ Put (now (out .entry)) at (byte ∷ []) (now (out .exit)) r ⌝ }
 {
@@ -38,7 +38,7 @@ pub fn put_byte(out: &mut [u8], at: usize, byte: u8) -> usize
 }
 
 // A number as `width` digits, the last one first.
-pub fn put_number(out: &mut [u8], at: usize, width: usize, number: u32) -> usize
+pub(crate) fn put_number(out: &mut [u8], at: usize, width: usize, number: u32) -> usize
     requires { ⌜ at + width ≤ length (now out) ⌝ }
     ensures { λ r. ⌜ Put (now (out .entry)) at (decimal width number) (now (out .exit)) r ⌝ }
 {

@@ -33,7 +33,7 @@ const COUNT_DIGITS: usize = 5;
 const CHECKSUM_DIGITS: usize = 2;
 
 // The number of the two digits at place i.
-pub fn pair(s: &[u8], i: usize) -> u32
+pub(crate) fn pair(s: &[u8], i: usize) -> u32
     requires { ⌜ i + 2 ≤ length (now s) ⌝ }
     ensures { λ r. ⌜ (r ≡ value (part (now (s .entry)) i 2)) × (r ≤ 2805) ⌝ }
 {
@@ -98,7 +98,7 @@ fn put_month(
 }
 
 // The records of the months from `first` to before `end`, whose rates stand end to end.
-pub fn put_months(
+pub(crate) fn put_months(
     out: &mut [u8],
     at: usize,
     schedule: &[u8],
@@ -123,7 +123,7 @@ pub fn put_months(
 }
 
 // The record of an update.
-pub fn put_update(
+pub(crate) fn put_update(
     out: &mut [u8],
     at: usize,
     schedule: &[u8],
