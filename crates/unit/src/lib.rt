@@ -7,6 +7,10 @@ ghost use Rattle.unit.specs.Values.{clockOf, isSound, freshUnit, install
 ghost use Rattle.unit.specs.Calls.{refusal, lostOf, failureOf, dueReply, commandOf, freeOf};
 
 mod ceiling;
+mod put;
+mod requesting;
+mod step;
+mod take;
 mod tick;
 
 use plant::Plant;
@@ -18,6 +22,9 @@ use rules::Command;
 use rules::Due;
 use rules::FreeBlocks;
 use rules::Kind;
+pub use step::Call;
+pub use step::Reply;
+pub use step::Stepped;
 
 // The clock: unset, or at a second.
 pub enum Clock {

@@ -1,6 +1,7 @@
 -- `unit::Unit::tick` meets its contract. Assumes nothing.
 use mathlib.Core.Path.{_≡_, sym, ap, ap₂, _∙_}
 use mathlib.Core.Bool.{true, _&&_}
+use native.Mathlib.Omega.{arith}
 use borrow.Author.Tests.{not-true, not-false}
 use denote.Ref.{now}
 use Rattle.rules.specs.declared.Answer.{Answer}
@@ -51,7 +52,7 @@ good c = sym (tested (c .before)) ∙ not-false _ (c .if2 .left)
 returns-3 : tie.Need-returns-3
 returns-3 c =
     let e = c .before .before in
-    c .refuse3 .ensures ∙ sym (tick-range _ _ _ (e .before .before .before .before .if1 .left) (good e) (c .before .if3 .taken))
+    c .refuse3 .ensures ∙ sym (tick-range _ _ _ (e .before .before .before .before .if1 .left) (good e) (omega (arith, c .before .if3 .taken)))
 
 cast-second : tie.Need-cast-second
 cast-second c = search needs
@@ -67,7 +68,7 @@ returns-4 c =
     let e = c .before .before .before in
     let a = e .before .before .before .before .before .before .args in
     ap (λ (v : Unit). record { unit = v; answer = Answer.Accepted }) (c .set-clock .ensures ∙ ap (jumped (a .self) (a .t)) (c .before .command-at .ensures))
-    ∙ sym (tick-done _ _ _ (e .before .before .before .before .if1 .left) (good e) (c .before .before .if3 .left))
+    ∙ sym (tick-done _ _ _ (e .before .before .before .before .if1 .left) (good e) (omega (arith, c .before .before .if3 .left)))
 
 pub tick-spec : {M : Type 1} → statement M
 tick-spec =

@@ -1,0 +1,202 @@
+-- `unit::Unit::take_file` meets its contract. Assumes nothing.
+use mathlib.Core.Path.{_≡_, sym, ap, ap₂, _∙_}
+use mathlib.Core.Bool.{Bool, true, _&&_}
+use lib.ListN.{length}
+use borrow.Author.Tests.{not-true, not-false}
+use denote.Ref.{now}
+use Rattle.rules.specs.File.{takeFile}
+use Rattle.rules.specs.Store.{storeLength}
+use Rattle.body.specs.Reading.{readingOf}
+use Rattle.body.specs.declared.Reading.the-variants.{Read}
+use Rattle.schedule.specs.Stored.{storeHolds}
+use Rattle.unit.specs.Values.{isSound}
+use Rattle.unit.proofs.TakeLaws.{take-length, take-unsound, take-unset, take-refused, take-full, take-done, read-room, read-following}
+use borrow.Author.Needs.{needs}
+use Rattle.unit.proofs.Unit.take_file.Statement.{statement}
+use Rattle.unit.proofs.Unit.take_file.Tie as tie
+
+refuse-requires : tie.Need-refuse-requires
+refuse-requires c κs = search needs
+
+returns : tie.Need-returns
+returns c =
+    let r = take-length _ _ _ _ (c .before .if1 .taken) in
+    (c .refuse .ensures ∙ r .0, r .1)
+
+sound-requires : tie.Need-sound-requires
+sound-requires c κs = search needs
+
+store-holds-requires : tie.Need-store-holds-requires
+store-holds-requires c κs = search needs
+
+-- unit and store at entry
+abbrev start : tie.After-store-holds → tie.Start
+start c = c .before .before .before .before .before .before .before .before .before .before
+
+-- what the code tests
+tested : (c : tie.After-store-holds) → (c .before .before .sound .result && c .store-holds .result) ≡ (isSound (start c .args .self) && storeHolds (start c .args .self .pool) (now (start c .args .store)))
+tested c = ap₂ _&&_ (c .before .before .sound .ensures) (c .store-holds .ensures)
+
+long : (c : tie.After-store-holds) → length (now (start c .args .store)) ≡ storeLength
+long c = c .before .before .before .before .before .before .if1 .left
+
+good : (c : tie.Else2) → (isSound (start (c .before) .args .self) && storeHolds (start (c .before) .args .self .pool) (now (start (c .before) .args .store))) ≡ true
+good c = sym (tested (c .before)) ∙ not-false _ (c .if2 .left)
+
+refuse-requires-2 : tie.Need-refuse-requires-2
+refuse-requires-2 c κs = search needs
+
+same-length : tie.Need-same-length
+same-length c = search needs
+
+returns-2 : tie.Need-returns-2
+returns-2 c =
+    let h = c .before .before in
+    let r = take-unsound _ _ _ _ (long h) (sym (tested h) ∙ not-true _ (c .before .if2 .taken)) in
+    (c .refuse2 .ensures ∙ r .0, r .1)
+
+enum-told : tie.Need-enum-told
+enum-told c = search needs
+
+enum-told-2 : tie.Need-enum-told-2
+enum-told-2 c = search needs
+
+refuse-requires-3 : tie.Need-refuse-requires-3
+refuse-requires-3 c κs = search needs
+
+same-length-2 : tie.Need-same-length-2
+same-length-2 c = search needs
+
+returns-3 : tie.Need-returns-3
+returns-3 c =
+    let e = c .before .before .before in
+    let r = take-unset _ _ _ _ (long (e .before)) (good e) (c .before .enum-told2 .given .1) in
+    (c .refuse3 .ensures ∙ r .0, r .1)
+
+slice-aggregate-read-to-take : tie.Need-slice-aggregate-read-to-take
+slice-aggregate-read-to-take c = search needs
+
+read-to-take-requires : tie.Need-read-to-take-requires
+read-to-take-requires c κs = search needs
+
+enum-known-cause : tie.Need-enum-known-cause
+enum-known-cause c = search needs
+
+refuse-requires-4 : tie.Need-refuse-requires-4
+refuse-requires-4 c κs = search needs
+
+enum-known-summary : tie.Need-enum-known-summary
+enum-known-summary c = search needs
+
+-- what was read
+abbrev at-read : tie.After-summary → tie.After-read-to-take
+at-read c = c .before .before
+
+abbrev entry : tie.After-read-to-take → tie.Start
+entry c = start (c .before .before .before .before .before .before)
+
+got : (c : tie.After-summary) → readingOf (takeFile (entry (at-read c) .args .self .plant .id) (now (entry (at-read c) .args .name)) (now (entry (at-read c) .args .body))) ≡ Read (c .summary .given .0 .0)
+got c = sym (at-read c .read-to-take .ensures) ∙ c .summary .given .1
+
+missing-requires : tie.Need-missing-requires
+missing-requires c κs = search needs
+
+free-count-requires : tie.Need-free-count-requires
+free-count-requires c κs = search needs
+
+refuse-requires-5 : tie.Need-refuse-requires-5
+refuse-requires-5 c κs = search needs
+
+same-length-3 : tie.Need-same-length-3
+same-length-3 c = search needs
+
+returns-4 : tie.Need-returns-4
+returns-4 c =
+    let n = c .before .before .before in
+    let s = n .before .before in
+    let k = at-read s .before .before .before in
+    let e = k .before .before in
+    let r = take-full _ _ _ _ (long (e .before)) (good e) _ (k .enum-told .given .1) _ (got s) _ _ (c .before .before .free-count .ensures) (n .missing .ensures) (c .before .if3 .taken) in
+    (c .refuse5 .ensures ∙ r .0, r .1)
+
+sub-put-records : tie.Need-sub-put-records
+sub-put-records c = read-room _ _ _ _ (got (c .before .before .before .before))
+
+part-put-records-start : tie.Need-part-put-records-start
+part-put-records-start c = read-room _ _ _ _ (got (c .before .before .before .before))
+
+part-put-records-end : tie.Need-part-put-records-end
+part-put-records-end c = search needs
+
+put-records-requires : tie.Need-put-records-requires
+put-records-requires c κs = read-following _ _ _ _ (got (c .before .before .before .before .before .before))
+
+take-requests-requires : tie.Need-take-requests-requires
+take-requests-requires c κs = search needs
+
+filed-requires : tie.Need-filed-requires
+filed-requires c κs = search needs
+
+same-length-4 : tie.Need-same-length-4
+same-length-4 c = search needs
+
+returns-5 : tie.Need-returns-5
+returns-5 c =
+    let a = c .before .before in
+    let b = a .before .before in
+    let k = b .before .before .before in
+    let e = k .before .before in
+    let r = take-refused _ _ _ _ (long (e .before)) (good e) _ (k .enum-told .given .1) _ (sym (b .read-to-take .ensures) ∙ a .cause .given .1) in
+    (c .refuse4 .ensures ∙ r .0, r .1)
+
+same-length-5 : tie.Need-same-length-5
+same-length-5 c = search needs
+
+returns-6 : tie.Need-returns-6
+returns-6 c =
+    let p = c .before .before .before .before in
+    let d = p .before .before .before in
+    let f = d .before in
+    let n = f .before in
+    let s = n .before .before in
+    let k = at-read s .before .before .before in
+    let e = k .before .before in
+    let r = take-done _ _ _ _ (long (e .before)) (good e) _ (k .enum-told .given .1) _ (got s) _ _ (f .free-count .ensures) (n .missing .ensures) (d .if3 .left) _ _ _ (p .put-records .ensures) (c .before .take-requests .ensures) in
+    (c .filed .ensures ∙ r .0, r .1)
+
+pub take-file-spec : {M : Type 1} → statement M
+take-file-spec =
+    tie.close
+    (tie.spec
+    refuse-requires
+    returns
+    sound-requires
+    store-holds-requires
+    refuse-requires-2
+    same-length
+    returns-2
+    enum-told
+    enum-told-2
+    refuse-requires-3
+    same-length-2
+    returns-3
+    slice-aggregate-read-to-take
+    read-to-take-requires
+    enum-known-cause
+    refuse-requires-4
+    enum-known-summary
+    missing-requires
+    free-count-requires
+    refuse-requires-5
+    same-length-3
+    returns-4
+    sub-put-records
+    part-put-records-start
+    part-put-records-end
+    put-records-requires
+    take-requests-requires
+    filed-requires
+    same-length-4
+    returns-5
+    same-length-5
+    returns-6)

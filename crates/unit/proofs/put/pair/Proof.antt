@@ -1,0 +1,48 @@
+-- `put::pair` meets its contract: a byte is below 256. Assumes nothing.
+use Prim.Native.Nat.{_+_}
+use mathlib.Core.Path.{sym}
+use native.Mathlib.Omega.{arith}
+use denote.Ref.{now}
+use Rattle.body.proofs.Parts.{pair-is}
+use borrow.Author.Needs.{needs}
+use Rattle.unit.proofs.put.pair.Statement.{statement}
+use Rattle.unit.proofs.put.pair.Tie as tie
+
+shared-slice-read-result : tie.Need-shared-slice-read-result
+shared-slice-read-result c = search needs
+
+cast-result : tie.Need-cast-result
+cast-result c = omega (arith, c .shared-slice-known .given (c .before .args .i))
+
+mul-result : tie.Need-mul-result
+mul-result c = omega (arith, c .shared-slice-known .given (c .before .args .i))
+
+add-result : tie.Need-add-result
+add-result c = search needs
+
+shared-slice-read-result-2 : tie.Need-shared-slice-read-result-2
+shared-slice-read-result-2 c = search needs
+
+cast-result-2 : tie.Need-cast-result-2
+cast-result-2 c = omega (arith, c .shared-slice-known2 .given (c .before .before .args .i + 1))
+
+add-result-2 : tie.Need-add-result-2
+add-result-2 c = omega (arith, c .shared-slice-known2 .given (c .before .before .args .i), c .shared-slice-known2 .given (c .before .before .args .i + 1))
+
+returns : tie.Need-returns
+returns c =
+    let a = c .before .before .args in
+    (sym (pair-is (now (a .s)) (a .i) (c .before .before .pre)), omega (arith, c .shared-slice-known2 .given (a .i), c .shared-slice-known2 .given (a .i + 1)))
+
+pub pair-spec : {M : Type 1} → statement M
+pair-spec =
+    tie.close
+    (tie.spec
+    shared-slice-read-result
+    cast-result
+    mul-result
+    add-result
+    shared-slice-read-result-2
+    cast-result-2
+    add-result-2
+    returns)
