@@ -1,5 +1,5 @@
 -- Laws of a loop that goes through a list by an index: what the rest from i on is, at i + 1 and at the end.
-use Prim.Native.Nat.{ℕ, suc, _+_, _≤_, _<_, _-_, _*_, _^_}
+use Prim.Native.Nat.{ℕ, zero, suc, _+_, _≤_, _<_, _-_, _*_, _^_}
 use mathlib.Core.Path.{_≡_, refl, sym, ap}
 use mathlib.Core.Bool.{Bool, true, false, _&&_, and-assoc, and-true}
 use mathlib.Core.List.{List, [], _∷_}
@@ -109,3 +109,10 @@ module _ (s : List ℕ) (i : ℕ) where
   pub sum-end : length s ≤ i → sum (drop i s) ≡ 0
   unfolding sum
   sum-end h = rw drop-of-length-le refl
+
+-- a list is summed by its two parts
+pub sum-parts : (k : ℕ) (s : List ℕ) → sum s ≡ sum (take k s) + sum (drop k s)
+unfolding sum
+sum-parts zero s = omega arith
+sum-parts (suc k) [] = refl
+sum-parts (suc k) (x ∷ s) = let e = sum-parts k s in omega arith

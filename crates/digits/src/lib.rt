@@ -1,6 +1,9 @@
 // Bytes as digits: whether they are some, the number that they stand for, sums and comparisons. Scans keep a flag and do not leave early.
 ghost use mathlib.Core.Path.{_≡_};
+ghost use Prim.Native.Nat.{_≤_};
+ghost use lib.ListN.{length};
 ghost use Rattle.rules.specs.Digits.{allAtMost, allAscii, sameBytes};
+ghost use Rattle.rules.specs.File.{sum};
 ghost use Rattle.digits.specs.Decimal.{decimalOf, ratesSum};
 
 // A number of at most 14 digits, or what is none.
@@ -71,6 +74,23 @@ pub fn number(s: &[u8]) -> Decimal
     Decimal::Number(value)
 }
 
+// As many bytes as 16 bits can sum.
+const STRETCH: usize = 256;
+
+// The sum of a stretch, in 16 bits: twice as many bytes are added at once as in 32.
+fn stretch_sum(s: &[u8]) -> u16
+    requires { ⌜ length (now s) ≤ 256 ⌝ }
+    ensures { λ r. ⌜ r ≡ sum (now (s .entry)) ⌝ }
+{
+    let mut total: u16 = 0;
+    let mut i = 0;
+    while i < s.len() {
+        total += s[i] as u16;
+        i += 1;
+    }
+    total
+}
+
 // The sum of the bytes of `s`, of which a record has at most 99,999.
 pub fn sum(s: &[u8]) -> u32
     ensures { λ r. ⌜ r ≡ ratesSum (now (s .entry)) ⌝ }
@@ -79,10 +99,10 @@ pub fn sum(s: &[u8]) -> u32
         return 0;
     }
     let mut total: u32 = 0;
-    let mut i = 0;
-    while i < s.len() {
-        total += s[i] as u32;
-        i += 1;
+    let mut t = s;
+    while STRETCH <= t.len() {
+        total += stretch_sum(&t[..STRETCH]) as u32;
+        t = &t[STRETCH..];
     }
-    total
+    total + stretch_sum(t) as u32
 }
