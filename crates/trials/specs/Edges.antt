@@ -306,6 +306,10 @@ taking (file f) M = withFile f M
 afternoon : Machine
 afternoon = taking (takeFile plantX (name F203 0) example10) (setClock (march27 + 3599) freshMachine)
 
+-- after that a file with rate 7 from 10:00 to 10:30
+corrected : Machine
+corrected = taking (takeFile plantX (name F203 0) (updateBody 202603271000 (7 ∷ []) 20260327113000)) afternoon
+
 -- one-slot updates in the first k months of 2000
 months : ℕ → Machine → Machine
 months zero M = M
@@ -385,13 +389,17 @@ histories =
     ∷ one (isHeld afternoon 315) is 0
     ∷ one (isHeld (setClock (march27 + 40 * 86400) afternoon) 314) is 0
     ∷ setClock march27 (setClock (march27 + 40 * 86400) freshMachine) .floor is 315
+    -- the latest file that covers a slot has its rate; the slots beside it keep theirs
+    ∷ optionNumber (rateOf corrected slot) is 101
+    ∷ optionNumber (rateOf corrected (slot + 1)) is 8
+    ∷ optionNumber (rateOf corrected (slot + 2)) is 29
     -- the months that are counted against 16
     ∷ countBelow 13 (isHeld (months 11 freshMachine)) is 11
     ∷ countBelow 13 (isHeld (setClock (firstDay 4 * 86400) (months 11 freshMachine))) is 8
     ∷ []
 
 pub histories-hold : allHold histories ≡ true
-unfolding allHold histories numbersOf months afternoon march27 slot takeExample replyNumbers example10 registered name updateBody
+unfolding allHold histories numbersOf months corrected afternoon march27 slot takeExample replyNumbers example10 registered name updateBody
     allAtMost allAscii valueFrom decimal sameBytes
     daysOfMonth firstDay monthFrom monthOfDay exists secondsOf startSlot percent
     formatOf segmentFits lawfulName nameShape parseName encodeName
