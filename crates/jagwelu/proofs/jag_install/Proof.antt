@@ -1,0 +1,16 @@
+-- `jagwelu::jag_install` meets its contract. Assumes nothing.
+use borrow.Author.Needs.{needs}
+use Rattle.jagwelu.proofs.jag_install.Statement.{statement}
+use Rattle.jagwelu.proofs.jag_install.Tie as tie
+
+install-requires : tie.Need-install-requires
+install-requires c κs = search needs
+
+hand-new-requires : tie.Need-hand-new-requires
+hand-new-requires c κs = search needs
+
+returns : tie.Need-returns
+returns c = simp (c .before .install .ensures, c .hand-new .ensures)
+
+pub jag-install-spec : {M : Type 1} → statement M
+jag-install-spec = tie.close (tie.spec install-requires hand-new-requires returns)

@@ -1,0 +1,213 @@
+// What C calls (include/jagwelu.h): the unit's calls over a struct that C holds, and files read and written without a unit.
+mod answers;
+mod held;
+
+ghost use mathlib.Core.Path.{_≡_};
+ghost use mathlib.Core.Option.{none};
+ghost use lib.ListN.{length};
+ghost use Rattle.rules.specs.ErrorFile.{errorCode};
+ghost use Rattle.rules.specs.File.{readFile};
+ghost use Rattle.rules.specs.Writer.{writeBody, writtenOf, bufferAfter};
+ghost use Rattle.rules.specs.declared.Kind.{Kind as KindOf};
+ghost use Rattle.body.specs.Reading.{readingOf};
+ghost use Rattle.error_file.specs.Code.{codeOf};
+ghost use Rattle.plant.specs.Plant.{settings};
+ghost use Rattle.unit.specs.Calls.{tickOf, lostOf, takeOf, storeAfterTake, failureOf, dueReply, ceilingOf, commandOf, freeOf};
+ghost use Rattle.unit.specs.Request.{requestOf};
+ghost use Rattle.unit.specs.Values.{installedUnit};
+ghost use Rattle.writer.specs.Fields.{fieldsOf};
+ghost use Rattle.jagwelu.specs.Held.{opened, handed, newly};
+ghost use Rattle.jagwelu.specs.Answers.{checkNumber, dueNumbers, ceilingNumbers, commandNumber, blocksNumber, writtenNumbers, fileNumbers, errorNumbers};
+pub use answers::CeilingAnswer;
+pub use answers::DueAnswer;
+pub use answers::ErrorAnswer;
+pub use answers::FileAnswer;
+pub use answers::Number;
+pub use answers::WrittenBytes;
+use error_file::ErrorCode;
+pub use held::Handed;
+pub use held::HeldUnit;
+use rules::Kind;
+use unit::Unit;
+
+// The bytes of an error file before its text.
+const TEXT_PLACE: usize = 6;
+
+// 3: 'store not 23,808 bytes'; 4: 'unit, or a lent store, not sound'.
+const STORE_LENGTH: u32 = 3;
+
+const UNSOUND: u32 = 4;
+
+#[no_mangle]
+pub extern "C" fn jag_install(
+    id: &[u8],
+    mac: &[u8],
+    panel: u64,
+    inverter: u64,
+    minutes: u64,
+) -> Handed
+    ensures { λ r. ⌜ r ≡ newly (installedUnit (now (id .entry)) (now (mac .entry)) (settings panel inverter minutes)) ⌝ }
+{
+    let installed = Unit::install(id, mac, panel, inverter, minutes);
+    held::hand_new(installed)
+}
+
+#[no_mangle]
+pub extern "C" fn jag_tick(unit: HeldUnit, second: u64, store: &[u8]) -> Handed
+    ensures { λ r. ⌜ r ≡ handed unit (tickOf (opened unit) (now (store .entry)) second) ⌝ }
+{
+    let opened = held::open(unit);
+    let done = opened.tick(second, store);
+    held::hand(unit, done)
+}
+
+#[no_mangle]
+pub extern "C" fn jag_clock_lost(unit: HeldUnit) -> Handed
+    ensures { λ r. ⌜ r ≡ handed unit (lostOf (opened unit)) ⌝ }
+{
+    let opened = held::open(unit);
+    let done = opened.clock_lost();
+    held::hand(unit, done)
+}
+
+#[no_mangle]
+pub extern "C" fn jag_take_file(
+    unit: HeldUnit,
+    name: &[u8],
+    body: &[u8],
+    store: &mut [u8],
+) -> Handed
+    ensures answer { λ r. ⌜ r ≡ handed unit (takeOf (opened unit) (now (store .entry)) (now (name .entry)) (now (body .entry))) ⌝ }
+    ensures kept { λ _. ⌜ now (store .exit) ≡ storeAfterTake (opened unit) (now (store .entry)) (now (name .entry)) (now (body .entry)) ⌝ }
+{
+    let opened = held::open(unit);
+    let done = opened.take_file(name, body, store);
+    held::hand(unit, done)
+}
+
+#[no_mangle]
+pub extern "C" fn jag_update_failed(unit: HeldUnit, status: u64) -> Handed
+    ensures { λ r. ⌜ r ≡ handed unit (failureOf (opened unit) KindOf.Update status) ⌝ }
+{
+    let opened = held::open(unit);
+    let done = opened.failure(Kind::Update, status);
+    held::hand(unit, done)
+}
+
+#[no_mangle]
+pub extern "C" fn jag_fixed_failed(unit: HeldUnit, status: u64) -> Handed
+    ensures { λ r. ⌜ r ≡ handed unit (failureOf (opened unit) KindOf.Fixed status) ⌝ }
+{
+    let opened = held::open(unit);
+    let done = opened.failure(Kind::Fixed, status);
+    held::hand(unit, done)
+}
+
+#[no_mangle]
+pub extern "C" fn jag_due(unit: HeldUnit) -> DueAnswer
+    ensures { λ r. ⌜ r ≡ dueNumbers (dueReply (opened unit)) ⌝ }
+{
+    let opened = held::open(unit);
+    let asked = opened.due();
+    let due = asked.answer;
+    answers::due_answer(due)
+}
+
+#[no_mangle]
+pub extern "C" fn jag_ceiling(unit: HeldUnit, slot: u64, store: &[u8]) -> CeilingAnswer
+    ensures { λ r. ⌜ r ≡ ceilingNumbers (ceilingOf (opened unit) (now (store .entry)) slot) ⌝ }
+{
+    let opened = held::open(unit);
+    let ceiling = opened.ceiling(slot, store);
+    answers::ceiling_answer(ceiling)
+}
+
+#[no_mangle]
+pub extern "C" fn jag_command(unit: HeldUnit) -> Number
+    ensures { λ r. ⌜ r ≡ commandNumber (commandOf (opened unit)) ⌝ }
+{
+    let opened = held::open(unit);
+    let command = opened.command();
+    answers::command_number(command)
+}
+
+#[no_mangle]
+pub extern "C" fn jag_free_blocks(unit: HeldUnit) -> Number
+    ensures { λ r. ⌜ r ≡ blocksNumber (freeOf (opened unit)) ⌝ }
+{
+    let opened = held::open(unit);
+    let free = opened.free_blocks();
+    answers::blocks_number(free)
+}
+
+#[no_mangle]
+pub extern "C" fn jag_check(unit: HeldUnit, store: &[u8]) -> u32
+    ensures { λ r. ⌜ r ≡ checkNumber (opened unit) (now (store .entry)) ⌝ }
+{
+    if store.len() != Unit::STORE_LENGTH {
+        return STORE_LENGTH;
+    }
+    let opened = held::open(unit);
+    let pool = opened.pool;
+    if opened.sound() & schedule::store_holds(pool, store) {
+        0
+    } else {
+        UNSOUND
+    }
+}
+
+#[no_mangle]
+pub extern "C" fn jag_request(unit: HeldUnit, segment: &[u8], out: &mut [u8]) -> WrittenBytes
+    ensures answer { λ r. ⌜ r ≡ writtenNumbers (writtenOf (requestOf (opened unit) (now (segment .entry)) (length (now (out .entry))))) ⌝ }
+    ensures buffer { λ _. ⌜ now (out .exit) ≡ bufferAfter (requestOf (opened unit) (now (segment .entry)) (length (now (out .entry)))) (now (out .entry)) ⌝ }
+{
+    let opened = held::open(unit);
+    let written = opened.request(segment, out);
+    answers::written_bytes(written)
+}
+
+#[no_mangle]
+pub extern "C" fn jag_read(name: &[u8], body: &[u8]) -> FileAnswer
+    ensures { λ r. ⌜ r ≡ fileNumbers (readingOf (readFile none (now (name .entry)) (now (body .entry)))) ⌝ }
+{
+    let reading = transfer::read(name, body);
+    answers::file_answer(reading)
+}
+
+#[no_mangle]
+pub extern "C" fn jag_write_body(
+    format: u32,
+    plant: &[u8],
+    schedule: &[u8],
+    start: &[u8],
+    next: &[u8],
+    rates: &[u8],
+    flag: u32,
+    out: &mut [u8],
+) -> WrittenBytes
+    ensures answer { λ r. ⌜ r ≡ writtenNumbers (writtenOf (writeBody (fieldsOf format (now (plant .entry)) (now (schedule .entry)) (now (start .entry)) (now (next .entry)) (now (rates .entry)) flag) (length (now (out .entry))))) ⌝ }
+    ensures buffer { λ _. ⌜ now (out .exit) ≡ bufferAfter (writeBody (fieldsOf format (now (plant .entry)) (now (schedule .entry)) (now (start .entry)) (now (next .entry)) (now (rates .entry)) flag) (length (now (out .entry)))) (now (out .entry)) ⌝ }
+{
+    let written = writer::write_body(format, plant, schedule, start, next, rates, flag, out);
+    answers::written_bytes(written)
+}
+
+#[no_mangle]
+pub extern "C" fn jag_error_file(file: &[u8]) -> ErrorAnswer
+    ensures { λ r. ⌜ r ≡ errorNumbers (codeOf (errorCode (now (file .entry)))) (now (file .entry)) ⌝ }
+{
+    match error_file::error_code(file) {
+        ErrorCode::Code(code) => ErrorAnswer {
+            text_at: TEXT_PLACE,
+            text_length: file.len() - TEXT_PLACE,
+            cause: 0,
+            code: code as u32,
+        },
+        ErrorCode::Refused(cause) => ErrorAnswer {
+            text_at: 0,
+            text_length: 0,
+            cause: numbers::cause_number(cause),
+            code: 0,
+        },
+    }
+}
