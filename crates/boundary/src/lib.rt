@@ -3,12 +3,10 @@ ghost use mathlib.Core.Path.{_≡_};
 ghost use mathlib.Core.Option.{none, some};
 ghost use Prim.Native.Nat.{min};
 ghost use lib.ListN.{length};
-ghost use Rattle.rules.specs.Causes.{numberOf};
 ghost use Rattle.rules.specs.Calendar.{daysOfMonth, firstSlot, monthOfSlot, moment, startSlot};
 ghost use Rattle.rules.specs.ErrorFile.{errorCode, errorText};
 ghost use Rattle.rules.specs.File.{readFile};
 ghost use Rattle.rules.specs.Lister.{line};
-ghost use Rattle.rules.specs.Name.{formatNumber};
 ghost use Rattle.rules.specs.Plant.{percent, installing};
 ghost use Rattle.rules.specs.Request.{request};
 ghost use Rattle.rules.specs.Writer.{writeBody, writtenOf, bufferAfter};
@@ -24,8 +22,6 @@ use calendar::Moment;
 use error_file::ErrorCode;
 use plant::Plant;
 use rules::Answer;
-use rules::Cause;
-use rules::Format;
 use rules::Written;
 
 // Added to a cause's number where the answer may be another number too.
@@ -33,41 +29,6 @@ const REFUSED: u32 = 2147483648;
 
 // The answer for a date that does not exist.
 const MISSING: u64 = 18446744073709551615;
-
-// 01's number of a cause.
-fn number_of(cause: Cause) -> u32
-    ensures { λ r. ⌜ r ≡ numberOf cause ⌝ }
-{
-    match cause {
-        Cause::PlantId => 1,
-        Cause::Setting => 2,
-        Cause::StoreLength => 3,
-        Cause::Unsound => 4,
-        Cause::ClockUnset => 5,
-        Cause::Range => 6,
-        Cause::Name => 7,
-        Cause::OtherPlant => 8,
-        Cause::Form => 9,
-        Cause::Date => 10,
-        Cause::Rate => 11,
-        Cause::Checksum => 12,
-        Cause::RecordPlant => 13,
-        Cause::Full => 14,
-        Cause::Buffer => 15,
-        Cause::ErrorFile => 16,
-    }
-}
-
-fn format_number(format: Format) -> u32
-    ensures { λ r. ⌜ r ≡ formatNumber format ⌝ }
-{
-    match format {
-        Format::F201 => 201,
-        Format::F202 => 202,
-        Format::F203 => 203,
-        Format::F301 => 301,
-    }
-}
 
 // What was read of a file, in the first eight places.
 fn put_words(s: Summary, out: &mut [u32])
@@ -77,7 +38,7 @@ fn put_words(s: Summary, out: &mut [u32])
         return;
     }
     let format = s.format;
-    out[0] = format_number(format);
+    out[0] = numbers::format_number(format);
     out[1] = s.segment as u32;
     out[2] = s.records;
     out[3] = s.rates;
@@ -92,7 +53,7 @@ fn give(reading: Reading, out: &mut [u32]) -> u32
     ensures { λ r. ⌜ (r ≡ readNumber reading) × (now (out .exit) ≡ readWords reading (now (out .entry))) ⌝ }
 {
     match reading {
-        Reading::Refused(cause) => number_of(cause),
+        Reading::Refused(cause) => numbers::cause_number(cause),
         Reading::Read(s) => {
             put_words(s, out);
             0
@@ -122,7 +83,7 @@ fn written_number(written: Written) -> u32
 {
     match written {
         Written::Length(n) => (n % 2147483648) as u32,
-        Written::Refused(cause) => REFUSED + number_of(cause),
+        Written::Refused(cause) => REFUSED + numbers::cause_number(cause),
     }
 }
 
@@ -157,7 +118,7 @@ pub extern "C" fn tr_error_code(file: &[u8]) -> u32
 {
     match error_file::error_code(file) {
         ErrorCode::Code(n) => n as u32,
-        ErrorCode::Refused(cause) => REFUSED + number_of(cause),
+        ErrorCode::Refused(cause) => REFUSED + numbers::cause_number(cause),
     }
 }
 
@@ -267,6 +228,6 @@ pub extern "C" fn tr_install(id: &[u8], mac: &[u8], panel: u64, inverter: u64, m
     let answer = made.answer;
     match answer {
         Answer::Accepted => 0,
-        Answer::Refused(cause) => number_of(cause),
+        Answer::Refused(cause) => numbers::cause_number(cause),
     }
 }

@@ -3,13 +3,9 @@ ghost use mathlib.Core.Path.{_≡_};
 ghost use Prim.Native.Nat.{_+_, _<_, _≤_, min};
 ghost use mathlib.Core.List.{[], _∷_, _++_};
 ghost use lib.ListN.{length};
-ghost use Rattle.rules.specs.Causes.{numberOf};
 ghost use Rattle.rules.specs.Lister.{namePart, numeral, line};
-ghost use Rattle.rules.specs.Name.{formatNumber};
 ghost use Rattle.listing.specs.Line.{room, lineIn, putIn, puts, okText, refusedText, textOf, Printable};
 use body::Reading;
-use rules::Cause;
-use rules::Format;
 
 // As many bytes as a line has room for.
 const ROOM: usize = 20;
@@ -107,42 +103,6 @@ fn body_start(end: usize, length: usize) -> usize
     if end < length { end + 1 } else { end }
 }
 
-// 01's number of a format.
-fn format_number(format: Format) -> u32
-    ensures { λ r. ⌜ r ≡ formatNumber format ⌝ }
-{
-    match format {
-        Format::F201 => 201,
-        Format::F202 => 202,
-        Format::F203 => 203,
-        Format::F301 => 301,
-    }
-}
-
-// 01's number of a cause.
-fn cause_number(cause: Cause) -> u32
-    ensures { λ r. ⌜ r ≡ numberOf cause ⌝ }
-{
-    match cause {
-        Cause::PlantId => 1,
-        Cause::Setting => 2,
-        Cause::StoreLength => 3,
-        Cause::Unsound => 4,
-        Cause::ClockUnset => 5,
-        Cause::Range => 6,
-        Cause::Name => 7,
-        Cause::OtherPlant => 8,
-        Cause::Form => 9,
-        Cause::Date => 10,
-        Cause::Rate => 11,
-        Cause::Checksum => 12,
-        Cause::RecordPlant => 13,
-        Cause::Full => 14,
-        Cause::Buffer => 15,
-        Cause::ErrorFile => 16,
-    }
-}
-
 // The line of what was read, or of the cause of its refusal.
 fn reading_line(reading: Reading) -> Line
     requires { ⌜ Printable reading ⌝ }
@@ -151,9 +111,9 @@ fn reading_line(reading: Reading) -> Line
     match reading {
         Reading::Read(file) => {
             let format = file.format;
-            ok_line(format_number(format), file.records, file.rates)
+            ok_line(numbers::format_number(format), file.records, file.rates)
         }
-        Reading::Refused(cause) => refused_line(cause_number(cause)),
+        Reading::Refused(cause) => refused_line(numbers::cause_number(cause)),
     }
 }
 

@@ -24,31 +24,9 @@ fn number(n: u64) {
     io::print_decimal(STDOUT_FILENO, n);
 }
 
-// 01's number of a cause.
-fn cause_number(cause: Cause) -> u64 {
-    match cause {
-        Cause::PlantId => 1,
-        Cause::Setting => 2,
-        Cause::StoreLength => 3,
-        Cause::Unsound => 4,
-        Cause::ClockUnset => 5,
-        Cause::Range => 6,
-        Cause::Name => 7,
-        Cause::OtherPlant => 8,
-        Cause::Form => 9,
-        Cause::Date => 10,
-        Cause::Rate => 11,
-        Cause::Checksum => 12,
-        Cause::RecordPlant => 13,
-        Cause::Full => 14,
-        Cause::Buffer => 15,
-        Cause::ErrorFile => 16,
-    }
-}
-
 fn refused(cause: Cause) {
     text(b"refused ");
-    number(cause_number(cause));
+    number(numbers::cause_number(cause) as u64);
     text(b"\n");
 }
 

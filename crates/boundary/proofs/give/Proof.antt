@@ -7,8 +7,8 @@ use Rattle.boundary.proofs.give.Tie as tie
 enum-known-reading : tie.Need-enum-known-reading
 enum-known-reading c = search needs
 
-number-of-requires : tie.Need-number-of-requires
-number-of-requires c κs = search needs
+cause-number-requires : tie.Need-cause-number-requires
+cause-number-requires c κs = search needs
 
 enum-known-reading-2 : tie.Need-enum-known-reading-2
 enum-known-reading-2 c = search needs
@@ -30,7 +30,7 @@ give-spec =
     tie.close
     (tie.spec
     enum-known-reading
-    number-of-requires
+    cause-number-requires
     enum-known-reading-2
     put-words-requires
     returns

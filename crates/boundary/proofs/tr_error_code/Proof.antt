@@ -19,18 +19,18 @@ cast-result c = search needs
 enum-known-cause : tie.Need-enum-known-cause
 enum-known-cause c = search needs
 
-number-of-requires : tie.Need-number-of-requires
-number-of-requires c κs = search needs
+cause-number-requires : tie.Need-cause-number-requires
+cause-number-requires c κs = search needs
 
 add-result : tie.Need-add-result
-add-result c = refused-fits _ (c .before .before .cause .given .0 .0) (c .number-of .ensures)
+add-result c = refused-fits _ (c .before .before .cause .given .0 .0) (c .cause-number .ensures)
 
 returns : tie.Need-returns
 returns c = ap codeNumber (sym (c .before .n .given .1) ∙ c .before .before .before .error-code .ensures)
 
 returns-2 : tie.Need-returns-2
 returns-2 c =
-    ap (λ (n : ℕ). refusedFrom + n) (c .number-of .ensures)
+    ap (λ (n : ℕ). refusedFrom + n) (c .cause-number .ensures)
     ∙ ap codeNumber (sym (c .before .before .cause .given .1) ∙ c .before .before .before .before .error-code .ensures)
 
 pub tr-error-code-spec : {M : Type 1} → statement M
@@ -41,7 +41,7 @@ tr-error-code-spec =
     enum-known-n
     cast-result
     enum-known-cause
-    number-of-requires
+    cause-number-requires
     add-result
     returns
     returns-2)

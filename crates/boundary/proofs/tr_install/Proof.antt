@@ -14,18 +14,18 @@ enum-told c = search needs
 enum-known-answer : tie.Need-enum-known-answer
 enum-known-answer c = search needs
 
-number-of-requires : tie.Need-number-of-requires
-number-of-requires c κs = search needs
+cause-number-requires : tie.Need-cause-number-requires
+cause-number-requires c κs = search needs
 
 returns : tie.Need-returns
 returns c = installed-number _ _ _ _ _ (c .before .before .install .ensures) (c .enum-told .given .1)
 
 returns-2 : tie.Need-returns-2
 returns-2 c =
-    c .number-of .ensures
+    c .cause-number .ensures
     ∙ installed-number _ _ _ _ _ (c .before .before .before .before .install .ensures) (c .before .before .answer .given .1)
 
 pub tr-install-spec : {M : Type 1} → statement M
 tr-install-spec =
     tie.close
-    (tie.spec install-requires enum-told enum-known-answer number-of-requires returns returns-2)
+    (tie.spec install-requires enum-told enum-known-answer cause-number-requires returns returns-2)

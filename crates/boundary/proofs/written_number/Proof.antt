@@ -14,17 +14,17 @@ cast-result c = search needs
 enum-known-written-2 : tie.Need-enum-known-written-2
 enum-known-written-2 c = search needs
 
-number-of-requires : tie.Need-number-of-requires
-number-of-requires c κs = search needs
+cause-number-requires : tie.Need-cause-number-requires
+cause-number-requires c κs = search needs
 
 add-result : tie.Need-add-result
-add-result c = refused-fits _ (c .before .before .written2 .given .0 .0) (c .number-of .ensures)
+add-result c = refused-fits _ (c .before .before .written2 .given .0 .0) (c .cause-number .ensures)
 
 returns : tie.Need-returns
 returns c = rw (c .before .written .given .1) refl
 
 returns-2 : tie.Need-returns-2
-returns-2 c = rw (c .number-of .ensures, c .before .before .written2 .given .1) refl
+returns-2 c = rw (c .cause-number .ensures, c .before .before .written2 .given .1) refl
 
 pub written-number-spec : {M : Type 1} → statement M
 written-number-spec =
@@ -33,7 +33,7 @@ written-number-spec =
     enum-known-written
     cast-result
     enum-known-written-2
-    number-of-requires
+    cause-number-requires
     add-result
     returns
     returns-2)
