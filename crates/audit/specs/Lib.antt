@@ -3,3 +3,4 @@ pub mod Ticks
 pub mod Acceptance
 pub mod Refusals
 pub mod Sentences
+pub mod FromC
