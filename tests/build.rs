@@ -1,4 +1,4 @@
-//! Links the library under test, but only where the feature `linked` is on.
+//! Links the libraries under test, but only where the feature `linked` is on.
 
 use std::env;
 use std::path::Path;
@@ -10,8 +10,10 @@ fn main() {
     }
     let package = env::var("CARGO_MANIFEST_DIR").expect("cargo sets the package folder");
     let folder = Path::new(&package).join("../target/staticlib");
-    let archive = folder.join("libboundary.a");
-    println!("cargo:rerun-if-changed={}", archive.display());
     println!("cargo:rustc-link-search=native={}", folder.display());
-    println!("cargo:rustc-link-lib=static=boundary");
+    for library in ["boundary", "jagwelu"] {
+        let archive = folder.join(format!("lib{library}.a"));
+        println!("cargo:rerun-if-changed={}", archive.display());
+        println!("cargo:rustc-link-lib=static={library}");
+    }
 }

@@ -1,5 +1,5 @@
 #!/usr/bin/env bash
-# Holds the proved library against the second implementation. Builds the static library, runs the tests that link it, shows what they
+# Holds the proved library against the second implementation. Builds the static libraries, runs the tests that link them, shows what they
 # print (counts by cause among it), and ends in `N passed, M failed`.
 set -u
 cd "$(dirname "$0")/.." || exit 1
@@ -14,12 +14,14 @@ finish() {
     exit
 }
 
-if ! rt staticlib boundary >"$log" 2>&1; then
-    cat "$log"
-    echo 'error: the static library was not built'
-    finish 0 1
-fi
-tail -n 1 "$log"
+for library in boundary jagwelu; do
+    if ! rt staticlib "$library" >"$log" 2>&1; then
+        cat "$log"
+        echo "error: the static library of $library was not built"
+        finish 0 1
+    fi
+    tail -n 1 "$log"
+done
 
 CARGO_TARGET_DIR=$root/target/cargo cargo test --release --offline --locked --no-fail-fast \
     --manifest-path tests/Cargo.toml --features linked -- --test-threads=1 --nocapture 2>&1 | tee "$log"

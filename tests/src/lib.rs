@@ -3,9 +3,11 @@
 //!
 //! `reference` is the plain implementation, `fast` one written for speed,
 //! `generate` makes the inputs, `lent` the buffers, `tally` counts what they
-//! reach, `subject` is the library under test (feature `linked`).
+//! reach. The libraries under test (feature `linked`) are `subject`, its
+//! readers and writers alone, and `firmware`, all that firmware calls.
 
 pub mod fast;
+pub mod firmware;
 pub mod generate;
 pub mod lent;
 pub mod reference;

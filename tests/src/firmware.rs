@@ -1,0 +1,153 @@
+//! The library that firmware links, by its C interface (`include/jagwelu.h`):
+//! the structs with the header's layout, and, where the library is linked,
+//! safe calls.
+
+use std::mem::{offset_of, size_of};
+
+#[cfg(feature = "linked")]
+mod calls;
+#[cfg(feature = "linked")]
+pub use calls::*;
+
+/// The blocks of a store.
+pub const BLOCK_COUNT: usize = 16;
+/// The bytes of a block.
+pub const BLOCK_LENGTH: usize = 1_488;
+/// The bytes of a store.
+pub const STORE_LENGTH: usize = BLOCK_COUNT * BLOCK_LENGTH;
+/// No flag, wanted or held.
+pub const NO_FLAG: u8 = 10;
+
+/// `jag_unit`: the unit as the caller keeps it.
+#[repr(C)]
+#[derive(Clone, Copy, Debug, PartialEq, Eq)]
+pub struct Unit {
+    pub id: [u8; 26],
+    pub mac: [u8; 12],
+    pub wanted_flag: u8,
+    pub held_flag: u8,
+    pub failures: u8,
+    pub clock_set: u8,
+    pub floor: u16,
+    pub panel: u32,
+    pub inverter: u32,
+    pub minutes: u32,
+    pub clock: u32,
+    pub command: u32,
+    pub fixed_at: u64,
+    pub update_at: u64,
+    pub months: [u16; BLOCK_COUNT],
+    pub free: u16,
+}
+
+/// `jag_done`: the unit after a call, and 0 or a cause.
+#[repr(C)]
+#[derive(Clone, Copy, Debug, PartialEq, Eq)]
+pub struct Done {
+    pub unit: Unit,
+    pub cause: u32,
+}
+
+/// `jag_number`.
+#[repr(C)]
+#[derive(Clone, Copy, Debug, PartialEq, Eq)]
+pub struct Number {
+    pub cause: u32,
+    pub value: u32,
+}
+
+/// `jag_written`.
+#[repr(C)]
+#[derive(Clone, Copy, Debug, PartialEq, Eq)]
+pub struct Written {
+    pub length: usize,
+    pub cause: u32,
+}
+
+/// `jag_due_answer`; `kind` is one of the three below.
+#[repr(C)]
+#[derive(Clone, Copy, Debug, PartialEq, Eq)]
+pub struct DueAnswer {
+    pub cause: u32,
+    pub kind: u32,
+    pub flag: u32,
+}
+
+pub const NOTHING: u32 = 0;
+pub const UPDATE: u32 = 1;
+pub const FIXED: u32 = 2;
+
+/// `jag_ceiling_answer`.
+#[repr(C)]
+#[derive(Clone, Copy, Debug, PartialEq, Eq)]
+pub struct CeilingAnswer {
+    pub cause: u32,
+    pub has_rate: u32,
+    pub rate: u32,
+    pub percent: u32,
+}
+
+/// `jag_file`.
+#[repr(C)]
+#[derive(Clone, Copy, Debug, PartialEq, Eq)]
+pub struct FileAnswer {
+    pub cause: u32,
+    pub format: u32,
+    pub segment: u32,
+    pub records: u32,
+    pub rates: u32,
+    pub start: u32,
+    pub flag: u32,
+    pub next_access: u32,
+    pub result: u32,
+}
+
+/// `jag_error`.
+#[repr(C)]
+#[derive(Clone, Copy, Debug, PartialEq, Eq)]
+pub struct ErrorAnswer {
+    pub text_at: usize,
+    pub text_length: usize,
+    pub cause: u32,
+    pub code: u32,
+}
+
+// The header's own assertions, number by number.
+const _: () = {
+    assert!(offset_of!(Unit, id) == 0);
+    assert!(offset_of!(Unit, mac) == 26);
+    assert!(offset_of!(Unit, wanted_flag) == 38);
+    assert!(offset_of!(Unit, held_flag) == 39);
+    assert!(offset_of!(Unit, failures) == 40);
+    assert!(offset_of!(Unit, clock_set) == 41);
+    assert!(offset_of!(Unit, floor) == 42);
+    assert!(offset_of!(Unit, panel) == 44);
+    assert!(offset_of!(Unit, inverter) == 48);
+    assert!(offset_of!(Unit, minutes) == 52);
+    assert!(offset_of!(Unit, clock) == 56);
+    assert!(offset_of!(Unit, command) == 60);
+    assert!(offset_of!(Unit, fixed_at) == 64);
+    assert!(offset_of!(Unit, update_at) == 72);
+    assert!(offset_of!(Unit, months) == 80);
+    assert!(offset_of!(Unit, free) == 112);
+    assert!(size_of::<Unit>() == 120);
+    assert!(offset_of!(Done, unit) == 0);
+    assert!(offset_of!(Done, cause) == 120);
+    assert!(size_of::<Done>() == 128);
+    assert!(size_of::<Number>() == 8);
+    assert!(size_of::<Written>() == 16);
+    assert!(size_of::<DueAnswer>() == 12);
+    assert!(size_of::<CeilingAnswer>() == 16);
+    assert!(size_of::<FileAnswer>() == 36);
+    assert!(size_of::<ErrorAnswer>() == 24);
+};
+
+impl Unit {
+    /// The months that have a block, and the number of that block.
+    pub fn held(&self) -> impl Iterator<Item = (u16, usize)> + '_ {
+        let in_use = |block: &usize| self.free >> block & 1 == 0;
+        (0..BLOCK_COUNT)
+            .filter(in_use)
+            .map(|block| (self.months[block], block))
+    }
+}
