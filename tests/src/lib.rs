@@ -6,6 +6,7 @@
 //! reach. The libraries under test (feature `linked`) are `subject`, its
 //! readers and writers alone, and `firmware`, all that firmware calls.
 
+pub mod call;
 pub mod fast;
 pub mod firmware;
 pub mod generate;

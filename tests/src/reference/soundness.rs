@@ -1,0 +1,141 @@
+//! Soundness of a unit as firmware keeps it, and of its store (01, 'The
+//! store'), and the machine that sound ones stand for.
+
+use super::body::{File, Record};
+use super::calendar::{days_of_month, first_slot, END, MONTHS};
+use super::machine::{Machine, Settings, STORE_LENGTH};
+use super::name::Segment;
+use super::plant;
+use super::requests::Requests;
+use super::schedule::{Schedule, BLOCK_LENGTH, NO_RATE};
+use crate::firmware::{Unit, NO_FLAG};
+
+/// 'f and u below T + 172,800.'
+const TIMES_END: u64 = END + 172_800;
+
+/// The header: the clock is unset and 0, or set and below T.
+fn clock_is_sound(unit: &Unit) -> bool {
+    match unit.clock_set {
+        0 => unit.clock == 0,
+        1 => u64::from(unit.clock) < END,
+        _ => false,
+    }
+}
+
+/// 'Held months are distinct and between floor and 1199.' Distinct blocks,
+/// and free ones that are the others, are in the free map's form.
+fn months_are_sound(unit: &Unit) -> bool {
+    let months: Vec<u16> = unit.held().map(|(month, _)| month).collect();
+    let distinct = (1..months.len()).all(|place| !months[..place].contains(&months[place]));
+    distinct
+        && months
+            .iter()
+            .all(|month| (unit.floor..MONTHS).contains(month))
+}
+
+/// 'A unit is sound when ..'
+pub fn unit_is_sound(unit: &Unit) -> bool {
+    let settings = [unit.panel, unit.inverter, unit.minutes].map(u64::from);
+    let [panel, inverter, minutes] = settings;
+    plant::install(&unit.id, &unit.mac, panel, inverter, minutes).is_ok()
+        && unit.floor < MONTHS
+        && months_are_sound(unit)
+        && unit.wanted_flag <= NO_FLAG
+        && unit.held_flag <= NO_FLAG
+        && unit.failures <= 5
+        && clock_is_sound(unit)
+        && unit.fixed_at < TIMES_END
+        && unit.update_at < TIMES_END
+        && unit.command <= 6_000 * unit.minutes
+}
+
+/// 'A store is sound when each held block's bytes are 0 to 100 or 255, and 255
+/// past its month's end.' Asked of a sound unit and a store of 01's length.
+fn store_is_sound(unit: &Unit, store: &[u8]) -> bool {
+    unit.held().all(|(month, block)| {
+        let bytes = &store[block * BLOCK_LENGTH..][..BLOCK_LENGTH];
+        let (rates, past) = bytes.split_at(48 * days_of_month(month) as usize);
+        let lawful = |byte: &u8| *byte <= 100 || *byte == NO_RATE;
+        rates.iter().all(lawful) && past.iter().all(|byte| *byte == NO_RATE)
+    })
+}
+
+/// Causes 3 and 4, for a unit and the store where it is lent.
+pub fn verdict(unit: &Unit, lent: Option<&[u8]>) -> Result<(), u8> {
+    if lent.is_some_and(|store| store.len() != STORE_LENGTH) {
+        return Err(3);
+    }
+    if !unit_is_sound(unit) || !lent.is_none_or(|store| store_is_sound(unit, store)) {
+        return Err(4);
+    }
+    Ok(())
+}
+
+/// A block's rates as a file's records, one for each run of slots with rates.
+fn records_of(first: u32, block: &[u8]) -> Vec<Record> {
+    let mut records: Vec<Record> = Vec::new();
+    let mut in_run = false;
+    for (place, byte) in block.iter().enumerate() {
+        let has_rate = *byte != NO_RATE;
+        if has_rate && !in_run {
+            records.push(Record {
+                schedule: Vec::new(),
+                plant: Vec::new(),
+                start_slot: first + place as u32,
+                rates: Vec::new(),
+            });
+        }
+        if let (true, Some(record)) = (has_rate, records.last_mut()) {
+            record.rates.push(*byte);
+        }
+        in_run = has_rate;
+    }
+    records
+}
+
+/// The machine that a sound unit and a sound store stand for, its months as
+/// files. Nothing where a held month has no rate at all: no list of files
+/// leads there.
+pub fn machine_of(unit: &Unit, store: &[u8]) -> Option<Machine> {
+    let mut files = Vec::new();
+    for (month, block) in unit.held() {
+        let bytes = &store[block * BLOCK_LENGTH..][..BLOCK_LENGTH];
+        let records = records_of(first_slot(month), bytes);
+        if records.is_empty() {
+            return None;
+        }
+        files.push(File {
+            format: 202,
+            segment: Segment::Monthly { month },
+            segment_value: 0,
+            created: 0,
+            records,
+            flag: None,
+            next: None,
+            result: None,
+        });
+    }
+    let flag = |flag: u8| (flag != NO_FLAG).then_some(flag);
+    Some(Machine {
+        id: unit.id.to_vec(),
+        settings: Settings {
+            panel: unit.panel,
+            inverter: unit.inverter,
+            minutes: unit.minutes,
+        },
+        store_length: store.len(),
+        clock: (unit.clock_set == 1).then_some(u64::from(unit.clock)),
+        schedule: Schedule {
+            floor: unit.floor,
+            files,
+        },
+        requests: Requests {
+            wanted_flag: flag(unit.wanted_flag),
+            held_flag: flag(unit.held_flag),
+            failures: unit.failures,
+            fixed_at: unit.fixed_at,
+            update_at: unit.update_at,
+        },
+        command: unit.command,
+    })
+}
