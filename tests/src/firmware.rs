@@ -5,6 +5,8 @@
 use std::mem::{offset_of, size_of};
 
 #[cfg(feature = "linked")]
+pub mod answers;
+#[cfg(feature = "linked")]
 mod calls;
 #[cfg(feature = "linked")]
 pub use calls::*;

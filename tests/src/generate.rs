@@ -1,18 +1,24 @@
 //! Deterministic inputs for every comparison: names and bodies, writer
-//! fields, error files, requests, installs and dates, valid and damaged.
+//! fields, error files, requests, installs and dates, valid and damaged, and
+//! lists of calls.
 //!
 //! Everything hangs on the seeds below and on the generator in `random`; the
 //! same seed always gives the same inputs.
 
 pub mod almanac;
+pub mod calls;
 pub mod cases;
 pub mod damage;
 pub mod damage_form;
 pub mod damage_rules;
 pub mod draft;
 pub mod fields;
+pub mod files;
+pub mod instants;
 pub mod outputs;
 pub mod random;
+pub mod shapes;
+pub mod spoil;
 
 pub use cases::{Case, Cases};
 pub use random::Random;
@@ -31,3 +37,7 @@ pub const REQUEST_SEED: u64 = 84;
 pub const INSTALL_SEED: u64 = 545;
 /// Seed of the dates and slots.
 pub const DATE_SEED: u64 = 36_525;
+/// Seed of the first list of calls; the next ones follow it.
+pub const LIST_SEED: u64 = 23_808;
+/// Lists of calls in the gate.
+pub const LISTS_IN_THE_GATE: u64 = 2_000;

@@ -23,6 +23,25 @@ impl Lent {
         &mut self.bytes[MARGIN..end]
     }
 
+    /// A buffer that holds these bytes.
+    pub fn with(bytes: &[u8]) -> Lent {
+        let mut lent = Lent::new(bytes.len());
+        lent.room().copy_from_slice(bytes);
+        lent
+    }
+
+    /// What the lent part holds.
+    pub fn held(&self) -> &[u8] {
+        &self.bytes[MARGIN..self.bytes.len() - MARGIN]
+    }
+
+    /// Did the margins stay as they were?
+    pub fn margins_stayed(&self) -> bool {
+        let past = &self.bytes[self.bytes.len() - MARGIN..];
+        let mut margins = self.bytes[..MARGIN].iter().chain(past);
+        margins.all(|byte| *byte == PATTERN)
+    }
+
     /// Demands that the buffer holds what was written, from its start, and
     /// that every other byte stayed; all of them where the call was refused.
     pub fn check(&self, written: &Result<Vec<u8>, u8>) {

@@ -4,13 +4,16 @@
 //! `reference` is the plain implementation, `fast` one written for speed,
 //! `generate` makes the inputs, `lent` the buffers, `tally` counts what they
 //! reach. The libraries under test (feature `linked`) are `subject`, its
-//! readers and writers alone, and `firmware`, all that firmware calls.
+//! readers and writers alone, and `firmware`, all that firmware calls, which
+//! `lists` runs beside the plain machine.
 
 pub mod call;
 pub mod fast;
 pub mod firmware;
 pub mod generate;
 pub mod lent;
+#[cfg(feature = "linked")]
+pub mod lists;
 pub mod reference;
 #[cfg(feature = "linked")]
 pub mod subject;

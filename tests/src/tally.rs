@@ -54,3 +54,33 @@ impl Tally {
         }
     }
 }
+
+/// How often each branch of a rule was taken.
+#[derive(Default)]
+pub struct Branches {
+    counts: BTreeMap<&'static str, u64>,
+}
+
+impl Branches {
+    pub fn add(&mut self, branch: &'static str) {
+        *self.counts.entry(branch).or_insert(0) += 1;
+    }
+
+    /// Prints the table and demands that each of `branches` came, and none
+    /// besides them.
+    pub fn settle(&self, title: &str, branches: &[&str]) {
+        println!("{title}:");
+        for branch in branches {
+            let count = self.counts.get(branch).copied().unwrap_or(0);
+            println!("  {count:>9}  {branch}");
+        }
+        for branch in branches {
+            let reached = self.counts.contains_key(branch);
+            assert!(reached, "{title}: {branch} was not reached");
+        }
+        for branch in self.counts.keys() {
+            let known = branches.contains(branch);
+            assert!(known, "{title}: unexpected branch {branch}");
+        }
+    }
+}

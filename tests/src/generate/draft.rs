@@ -168,8 +168,12 @@ pub fn some_update_span(random: &mut Random) -> (u64, u64) {
     (slot, n)
 }
 
-fn update_record(schedule: &[u8], plant: &[u8], random: &mut Random) -> RecordParts {
-    let (slot, n) = some_update_span(random);
+fn update_record(
+    schedule: &[u8],
+    plant: &[u8],
+    (slot, n): (u64, u64),
+    random: &mut Random,
+) -> RecordParts {
     let mut record = RecordParts {
         schedule: schedule.to_vec(),
         plant: plant.to_vec(),
@@ -189,49 +193,76 @@ impl Draft {
     pub fn valid(format: u16, random: &mut Random) -> Draft {
         let plant = some_plant(random);
         let schedule = random.digits(10);
-        let (segment, records) = match format {
+        match format {
             201 => {
                 let first = some_month(random, MONTHS - 13);
-                let shared = random.once_in(2);
-                let mut records = Vec::new();
-                for month in first..first + 13 {
-                    let own = random.digits(10);
-                    let id = if shared { &schedule } else { &own };
-                    records.push(month_record(id, &plant, month, random));
-                }
-                (vec![9, 9, 9, random.below(10) as u8], records)
+                Draft::yearly(&plant, &schedule, first, random)
             }
             202 => {
                 let month = some_month(random, MONTHS - 1);
-                let segment = digits(month / 12 * 100 + month % 12 + 1, 4);
-                let record = month_record(&schedule, &plant, month, random);
-                (segment, vec![record])
+                Draft::monthly(&plant, &schedule, month, random)
             }
-            203 => (
-                vec![0, 0, 0, 0],
-                vec![update_record(&schedule, &plant, random)],
-            ),
-            _ => {
-                let record = RecordParts {
-                    plant: plant.clone(),
-                    flag: vec![random.below(2) as u8],
-                    ..RecordParts::default()
-                };
-                (vec![8, 8, 8, 8], vec![record])
+            203 => {
+                let span = some_update_span(random);
+                Draft::update(&plant, &schedule, span, random)
             }
+            _ => Draft::registration(&plant, random),
+        }
+    }
+
+    /// The 13 months from `first` on, with any digit in the segment.
+    pub fn yearly(plant: &[u8], schedule: &[u8], first: u64, random: &mut Random) -> Draft {
+        let shared = random.once_in(2);
+        let mut records = Vec::new();
+        for month in first..first + 13 {
+            let own = random.digits(10);
+            let id = if shared { schedule } else { &own };
+            records.push(month_record(id, plant, month, random));
+        }
+        let segment = vec![9, 9, 9, random.below(10) as u8];
+        Draft::assembled(201, plant, &segment, records, random)
+    }
+
+    pub fn monthly(plant: &[u8], schedule: &[u8], month: u64, random: &mut Random) -> Draft {
+        let segment = digits(month / 12 * 100 + month % 12 + 1, 4);
+        let record = month_record(schedule, plant, month, random);
+        Draft::assembled(202, plant, &segment, vec![record], random)
+    }
+
+    /// An update of a start slot and n, with any flag and next access.
+    pub fn update(plant: &[u8], schedule: &[u8], span: (u64, u64), random: &mut Random) -> Draft {
+        let record = update_record(schedule, plant, span, random);
+        Draft::assembled(203, plant, &[0; 4], vec![record], random)
+    }
+
+    pub fn registration(plant: &[u8], random: &mut Random) -> Draft {
+        let record = RecordParts {
+            plant: plant.to_vec(),
+            flag: vec![random.below(2) as u8],
+            ..RecordParts::default()
         };
+        Draft::assembled(301, plant, &[8; 4], vec![record], random)
+    }
+
+    fn assembled(
+        format: u16,
+        plant: &[u8],
+        segment: &[u8],
+        records: Vec<RecordParts>,
+        random: &mut Random,
+    ) -> Draft {
         Draft {
             format,
             name: NameParts {
                 format: format.to_string().into_bytes(),
-                segment: ascii(&segment),
-                plant: ascii(&plant),
+                segment: ascii(segment),
+                plant: ascii(plant),
                 created: ascii(&almanac::moment(some_moment(random))),
                 underscores: *b"___",
                 tail: b".data".to_vec(),
                 short: 0,
             },
-            owner: plant,
+            owner: plant.to_vec(),
             count: digits(records.len() as u64, 6),
             records,
             tail: Vec::new(),

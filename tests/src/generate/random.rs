@@ -46,6 +46,18 @@ impl Random {
         choices[self.below(choices.len() as u64) as usize]
     }
 
+    /// A place among the weights, each as often as its weight says.
+    pub fn weighted(&mut self, weights: &[u64]) -> usize {
+        let mut rest = self.below(weights.iter().sum());
+        for (place, weight) in weights.iter().enumerate() {
+            if rest < *weight {
+                return place;
+            }
+            rest -= weight;
+        }
+        weights.len() - 1
+    }
+
     /// Any byte.
     pub fn byte(&mut self) -> u8 {
         self.bits() as u8

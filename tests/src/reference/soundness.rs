@@ -100,7 +100,8 @@ pub fn machine_of(unit: &Unit, store: &[u8]) -> Option<Machine> {
     let mut files = Vec::new();
     for (month, block) in unit.held() {
         let bytes = &store[block * BLOCK_LENGTH..][..BLOCK_LENGTH];
-        let records = records_of(first_slot(month), bytes);
+        let slots = 48 * days_of_month(month) as usize;
+        let records = records_of(first_slot(month), &bytes[..slots]);
         if records.is_empty() {
             return None;
         }
