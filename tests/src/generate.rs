@@ -19,6 +19,7 @@ pub mod outputs;
 pub mod random;
 pub mod shapes;
 pub mod spoil;
+pub mod spoil_store;
 
 pub use cases::{Case, Cases};
 pub use random::Random;
@@ -40,4 +41,4 @@ pub const DATE_SEED: u64 = 36_525;
 /// Seed of the first list of calls; the next ones follow it.
 pub const LIST_SEED: u64 = 23_808;
 /// Lists of calls in the gate.
-pub const LISTS_IN_THE_GATE: u64 = 2_000;
+pub const LISTS_IN_THE_GATE: u64 = 6_000;

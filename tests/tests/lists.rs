@@ -1,8 +1,12 @@
 //! Demand 3 held against the library: lists of calls, each answer beside the
 //! plain machine's.
 
+use compare::firmware::{self, BLOCK_LENGTH, STORE_LENGTH};
+use compare::generate::cases::{example_10, values};
+use compare::generate::draft::PLANT_X;
 use compare::generate::{LISTS_IN_THE_GATE, LIST_SEED};
 use compare::lists::{run, Counts};
+use compare::reference::calendar::{moment, start_slot};
 
 #[test]
 fn lists_of_calls() {
@@ -14,4 +18,37 @@ fn lists_of_calls() {
         }
     }
     counts.settle();
+}
+
+/// A sound unit may hold a month of which no slot has a rate. It counts as
+/// held until the floor passes it, and a file for it goes into its block.
+#[test]
+fn a_month_without_a_rate() {
+    let mac = b"012389ABCDEF";
+    let fresh = firmware::install(&PLANT_X, mac, 4_000, 5_500, 5).unit;
+    let mut store = vec![0; STORE_LENGTH];
+    let second = moment(&values("20260327090000")).expect("exists");
+    let mut unit = firmware::tick(fresh, second, &store).unit;
+    let march = 26 * 12 + 2;
+    unit.months[7] = march;
+    unit.free = !(1 << 7);
+    store[7 * BLOCK_LENGTH..8 * BLOCK_LENGTH].fill(255);
+    assert_eq!(firmware::check(unit, &store), 0);
+    assert_eq!(firmware::free_blocks(unit).value, 15);
+    let slot = u64::from(start_slot(&values("202603270930")).expect("exists"));
+    let answer = firmware::ceiling(unit, slot, &store);
+    assert_eq!((answer.cause, answer.has_rate), (0, 0));
+
+    let (name, body) = example_10();
+    let taken = firmware::take_file(unit, &name, &body, &mut store);
+    assert_eq!(taken.cause, 0);
+    assert_eq!(firmware::free_blocks(taken.unit).value, 15);
+    let place = 7 * BLOCK_LENGTH + 26 * 48 + 19;
+    assert_eq!(store[place - 1..place + 4], [255, 100, 40, 28, 255]);
+
+    let later = |digits| moment(&values(digits)).expect("exists");
+    let april = firmware::tick(unit, later("20260430235959"), &store).unit;
+    assert_eq!(firmware::free_blocks(april).value, 15);
+    let may = firmware::tick(unit, later("20260501000000"), &store).unit;
+    assert_eq!(firmware::free_blocks(may).value, 16);
 }

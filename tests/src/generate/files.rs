@@ -21,6 +21,7 @@ fn near_month(machine: &Machine, now: u64, shape: &Shape, last: u64, random: &mu
         1 => floor.saturating_sub(1),
         2 => floor + 15,
         3 => floor + 16,
+        4 | 5 => month,
         _ => near,
     };
     chosen.min(last)

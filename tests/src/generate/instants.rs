@@ -50,6 +50,12 @@ fn months_on(clock: u64, least: u64, most: u64, random: &mut Random) -> u64 {
 /// back, months back, anywhere, and T or above.
 pub fn second(machine: &Machine, last: u64, weights: &[u64; 12], random: &mut Random) -> u64 {
     let clock = machine.clock.unwrap_or(last);
+    let floor = machine.schedule.floor;
+    if month_of_second(clock) < floor && random.once_in(3) {
+        // Below the floor nothing has a rate: back to where something may.
+        let month = u64::from(floor) + random.below(2);
+        return (first_slot(month) * 1_800 + random.below(30 * DAY)).min(LAST);
+    }
     let second = match random.weighted(weights) {
         0 => clock,
         1 => clock + 1,

@@ -3,8 +3,9 @@
 
 use super::draft::check_digit;
 use super::random::Random;
-use crate::firmware::{Unit, BLOCK_COUNT, BLOCK_LENGTH};
-use crate::reference::calendar::{days_of_month, END, MONTHS};
+use super::spoil_store::STORE_SPOILS;
+use crate::firmware::Unit;
+use crate::reference::calendar::END;
 
 /// What the change leaves behind.
 #[derive(Clone, Copy, Debug, PartialEq, Eq)]
@@ -26,7 +27,7 @@ pub struct Spoil {
     pub apply: fn(&mut Unit, &mut Vec<u8>, &mut Random) -> bool,
 }
 
-const fn spoil(
+pub const fn spoil(
     outcome: Outcome,
     words: &'static str,
     apply: fn(&mut Unit, &mut Vec<u8>, &mut Random) -> bool,
@@ -41,46 +42,31 @@ const fn spoil(
 /// f and u must be below this.
 const TIMES_END: u64 = END + 172_800;
 
-/// A month that has a block, with that block.
-fn some_held(unit: &Unit, random: &mut Random) -> Option<(u16, usize)> {
-    let held: Vec<(u16, usize)> = unit.held().collect();
-    match held.is_empty() {
-        true => None,
-        false => Some(held[random.place(held.len())]),
+/// Flips a bit of a field, counted in the header's order.
+fn flip(unit: &mut Unit, field: u64, random: &mut Random) {
+    let bit = random.below(64);
+    let place = random.below(16) as usize;
+    match field {
+        0 => unit.id[place + 10 * random.below(2) as usize] ^= 1 << (bit % 8),
+        1 => unit.mac[place % 12] ^= 1 << (bit % 8),
+        2 => unit.wanted_flag ^= 1 << (bit % 8),
+        3 => unit.held_flag ^= 1 << (bit % 8),
+        4 => unit.failures ^= 1 << (bit % 8),
+        5 => unit.clock_set ^= 1 << (bit % 8),
+        6 => unit.floor ^= 1 << (bit % 16),
+        7 => unit.panel ^= 1 << (bit % 32),
+        8 => unit.inverter ^= 1 << (bit % 32),
+        9 => unit.minutes ^= 1 << (bit % 32),
+        10 => unit.clock ^= 1 << (bit % 32),
+        11 => unit.command ^= 1 << (bit % 32),
+        12 => unit.fixed_at ^= 1 << bit,
+        13 => unit.update_at ^= 1 << bit,
+        _ => unit.months[place] ^= 1 << (bit % 16),
     }
-}
-
-fn some_free(unit: &Unit, random: &mut Random) -> Option<usize> {
-    let free: Vec<usize> = (0..BLOCK_COUNT)
-        .filter(|block| unit.free >> block & 1 == 1)
-        .collect();
-    match free.is_empty() {
-        true => None,
-        false => Some(free[random.place(free.len())]),
-    }
-}
-
-/// Puts a byte somewhere into the part of a held block that belongs to its
-/// month (`past` false) or lies past its end.
-fn put(unit: &Unit, store: &mut [u8], past: bool, byte: u8, random: &mut Random) -> bool {
-    let Some((month, block)) = some_held(unit, random) else {
-        return false;
-    };
-    let slots = 48 * days_of_month(month) as usize;
-    let place = match past {
-        false => random.place(slots),
-        true if slots < BLOCK_LENGTH => slots + random.place(BLOCK_LENGTH - slots),
-        true => return false,
-    };
-    match store.get_mut(block * BLOCK_LENGTH + place) {
-        Some(at) => *at = byte,
-        None => return false,
-    }
-    true
 }
 
 /// The changes to ID, MAC, settings, flags, times and command.
-pub static VALUE_SPOILS: &[Spoil] = &[
+static VALUE_SPOILS: &[Spoil] = &[
     spoil(Outcome::Unit, "check digit", |unit, _, random| {
         unit.id[25] = random.other_digit(check_digit(&unit.id));
         true
@@ -182,129 +168,24 @@ pub static VALUE_SPOILS: &[Spoil] = &[
         (unit.clock_set, unit.clock) = (0, 0);
         true
     }),
-];
-
-/// The changes to floor, months, free map and store.
-pub static STORE_SPOILS: &[Spoil] = &[
-    spoil(Outcome::Unit, "floor above 1199", |unit, _, random| {
-        unit.floor = random.pick(&[MONTHS, MONTHS + 1, u16::MAX]);
-        true
-    }),
     spoil(
-        Outcome::Unit,
-        "floor above a held month",
+        Outcome::Chance,
+        "a bit of any field flipped",
         |unit, _, random| {
-            let held = some_held(unit, random);
-            held.map(|(month, _)| unit.floor = month + 1).is_some()
-        },
-    ),
-    spoil(
-        Outcome::Unit,
-        "held month below floor",
-        |unit, _, random| match some_held(unit, random) {
-            Some((_, block)) if unit.floor > 0 => {
-                unit.months[block] = unit.floor - 1;
-                true
-            }
-            _ => false,
-        },
-    ),
-    spoil(Outcome::Unit, "held month above 1199", |unit, _, random| {
-        let Some((_, block)) = some_held(unit, random) else {
-            return false;
-        };
-        unit.months[block] = random.pick(&[MONTHS, MONTHS + 1, u16::MAX]);
-        true
-    }),
-    spoil(
-        Outcome::Unit,
-        "one month in two blocks",
-        |unit, _, random| {
-            let held: Vec<(u16, usize)> = unit.held().collect();
-            let Some(((month, _), block)) = held.first().zip(some_free(unit, random)) else {
-                return false;
-            };
-            unit.months[block] = *month;
-            unit.free &= !(1 << block);
+            flip(unit, random.below(15), random);
             true
         },
     ),
     spoil(
         Outcome::Chance,
-        "bit of the free map flipped",
+        "bits of all fields flipped",
         |unit, _, random| {
-            unit.free ^= 1 << random.below(16);
-            true
-        },
-    ),
-    spoil(
-        Outcome::Chance,
-        "another month in a block",
-        |unit, _, random| {
-            let Some((month, block)) = some_held(unit, random) else {
-                return false;
-            };
-            unit.months[block] = random.pick(&[month + 1, month + 12, month.saturating_sub(1)]);
-            true
-        },
-    ),
-    spoil(
-        Outcome::Sound,
-        "month number of a free block",
-        |unit, _, random| match some_free(unit, random) {
-            Some(block) => {
-                unit.months[block] = random.bits() as u16;
-                true
+            for field in 0..15 {
+                flip(unit, field, random);
             }
-            None => false,
+            true
         },
     ),
-    spoil(
-        Outcome::Sound,
-        "byte of a free block",
-        |unit, store, random| {
-            let Some(block) = some_free(unit, random) else {
-                return false;
-            };
-            let place = block * BLOCK_LENGTH + random.place(BLOCK_LENGTH);
-            let byte = random.byte();
-            store.get_mut(place).map(|at| *at = byte).is_some()
-        },
-    ),
-    spoil(
-        Outcome::Sound,
-        "rate of a held block",
-        |unit, store, random| {
-            let rate = random.pick(&[0, 1, 50, 99, 100, 255]);
-            put(unit, store, false, rate, random)
-        },
-    ),
-    spoil(
-        Outcome::Store,
-        "byte 101 to 254 in a held block",
-        |unit, store, random| {
-            let byte = random.pick(&[101, 102, 127, 128, 200, 253, 254]);
-            put(unit, store, false, byte, random)
-        },
-    ),
-    spoil(
-        Outcome::Store,
-        "byte past the month's end",
-        |unit, store, random| {
-            let byte = random.pick(&[0, 1, 100, 101, 254]);
-            put(unit, store, true, byte, random)
-        },
-    ),
-    spoil(Outcome::Store, "store too short", |_, store, random| {
-        let less = random.pick(&[1, 2, BLOCK_LENGTH, store.len()]);
-        store.truncate(store.len().saturating_sub(less));
-        true
-    }),
-    spoil(Outcome::Store, "store too long", |_, store, random| {
-        let more = random.pick(&[1, 2, BLOCK_LENGTH, 65_536]);
-        store.resize(store.len() + more, 255);
-        true
-    }),
 ];
 
 /// Every kind of change.
