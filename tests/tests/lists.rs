@@ -1,12 +1,15 @@
 //! Demand 3 held against the library: lists of calls, each answer beside the
 //! plain machine's.
 
+use compare::call::Call;
+use compare::firmware::answers::answer;
 use compare::firmware::{self, BLOCK_LENGTH, STORE_LENGTH};
-use compare::generate::cases::{example_10, values};
+use compare::generate::cases::{example_10, special, values};
 use compare::generate::draft::PLANT_X;
 use compare::generate::{LISTS_IN_THE_GATE, LIST_SEED};
 use compare::lists::{run, Counts};
 use compare::reference::calendar::{moment, start_slot};
+use compare::reference::Machine;
 
 #[test]
 fn lists_of_calls() {
@@ -51,4 +54,27 @@ fn a_month_without_a_rate() {
     assert_eq!(firmware::free_blocks(april).value, 15);
     let may = firmware::tick(unit, later("20260501000000"), &store).unit;
     assert_eq!(firmware::free_blocks(may).value, 16);
+}
+
+/// The files that 01 and its readings speak of, each taken by a fresh unit.
+#[test]
+fn special_files_taken() {
+    let mac = b"012389ABCDEF";
+    let settings = [4_000, 5_500, 5];
+    let second = moment(&values("20260327090000")).expect("exists");
+    for case in special() {
+        let mut unit = firmware::install(&PLANT_X, mac, 4_000, 5_500, 5).unit;
+        let mut store = vec![0; STORE_LENGTH];
+        let mut machine =
+            Machine::install(&PLANT_X, mac, settings, STORE_LENGTH).expect("valid values");
+        let file = Call::TakeFile {
+            name: case.name,
+            body: case.body,
+        };
+        for call in [file.clone(), Call::Tick { second }, file, Call::FreeBlocks] {
+            let library = answer(&mut unit, &mut store, &call).expect("an answer of 01");
+            assert_eq!(library, machine.answer(&call), "{}", case.words[0]);
+        }
+        assert_eq!(firmware::check(unit, &store), 0, "{}", case.words[0]);
+    }
 }

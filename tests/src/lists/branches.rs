@@ -6,10 +6,12 @@ use std::collections::BTreeSet;
 use super::counts::Counts;
 use crate::call::{Answer, Call};
 use crate::reference::requests::{is_client_error, Reason, Requests};
-use crate::reference::schedule::months_of;
-use crate::reference::{File, Machine, Segment};
+use crate::reference::schedule::{month_of_second, months_of};
+use crate::reference::{Machine, Segment};
+use crate::tally::Branches;
 
-const TICKS: [&str; 9] = [
+/// Every branch that must come.
+pub const BRANCHES: [&str; 42] = [
     "tick: clock was unset",
     "tick: the same second",
     "tick: back",
@@ -19,9 +21,8 @@ const TICKS: [&str; 9] = [
     "tick: a held month given up",
     "tick: command up",
     "tick: command down",
-];
-const LOST: [&str; 2] = ["clock lost: was set", "clock lost: was unset"];
-const FILES: [&str; 12] = [
+    "clock lost: was set",
+    "clock lost: was unset",
     "file: yearly",
     "file: monthly",
     "file: update",
@@ -34,15 +35,11 @@ const FILES: [&str; 12] = [
     "file: a month held before",
     "file: a month not held before",
     "file: 16 months held after it",
-];
-const FAILURES: [&str; 5] = [
     "update failed: 400-499",
     "update failed: other",
     "fixed failed: 400-499",
     "fixed failed: k below 5",
     "fixed failed: k is 5",
-];
-const DUE: [&str; 7] = [
     "due: update",
     "due: fixed in the window",
     "due: fixed by k above 0",
@@ -50,8 +47,6 @@ const DUE: [&str; 7] = [
     "due: nothing, w is h",
     "due: nothing, clock before f",
     "due: nothing, outside the window",
-];
-const QUESTIONS: [&str; 7] = [
     "ceiling: a rate above 0",
     "ceiling: rate 0",
     "ceiling: no rate",
@@ -60,7 +55,9 @@ const QUESTIONS: [&str; 7] = [
     "free blocks: some",
     "free blocks: none",
 ];
-const WINDOWS: [&str; 10] = [
+
+/// The check digits, for each of which something must be due in the window.
+pub const WINDOWS: [&str; 10] = [
     "check digit 0",
     "check digit 1",
     "check digit 2",
@@ -72,17 +69,6 @@ const WINDOWS: [&str; 10] = [
     "check digit 8",
     "check digit 9",
 ];
-
-/// Every branch that must come.
-pub fn branches() -> Vec<&'static str> {
-    let all: [&[&str]; 6] = [&TICKS, &LOST, &FILES, &FAILURES, &DUE, &QUESTIONS];
-    all.concat()
-}
-
-/// The check digits, for each of which something must be due in the window.
-pub fn window_branches() -> Vec<&'static str> {
-    WINDOWS.to_vec()
-}
 
 /// The machine before a call, without its files.
 pub struct Before {
@@ -107,37 +93,42 @@ impl Before {
 
 /// Counts the branches of a call that wasn't refused.
 pub fn note(before: &Before, machine: &Machine, call: &Call, answer: Answer, counts: &mut Counts) {
-    let mut add = |branch| counts.branches.add(branch);
+    let branches = &mut counts.branches;
     match (call, answer) {
         (_, Answer::Refused(_)) => {}
-        (Call::Tick { second }, _) => note_tick(before, machine, *second, &mut add),
-        (Call::ClockLost, _) => add(LOST[usize::from(before.clock.is_none())]),
-        (Call::TakeFile { .. }, _) => {
-            if let Some(file) = machine.schedule.files.last() {
-                note_file(before, machine, file, &mut add);
-            }
-        }
-        (Call::UpdateFailed { status }, _) => add(FAILURES[usize::from(!is_client_error(*status))]),
-        (Call::FixedFailed { status }, _) if is_client_error(*status) => add(FAILURES[2]),
-        (Call::FixedFailed { .. }, _) => {
-            add(FAILURES[3 + usize::from(before.requests.failures == 5)])
-        }
-        (Call::Due, _) => note_due(before, machine, counts),
-        (Call::Ceiling { slot }, Answer::Ceiling(rate)) => add(match rate {
-            Some((1.., _)) => QUESTIONS[0],
-            Some((0, _)) => QUESTIONS[1],
-            None if covered_below_floor(machine, *slot) => QUESTIONS[3],
-            None => QUESTIONS[2],
+        (Call::Tick { second }, _) => note_tick(before, machine, *second, branches),
+        (Call::ClockLost, _) => branches.add(match before.clock {
+            Some(_) => "clock lost: was set",
+            None => "clock lost: was unset",
         }),
-        (Call::FreeBlocks, Answer::Number(16)) => add(QUESTIONS[4]),
-        (Call::FreeBlocks, Answer::Number(0)) => add(QUESTIONS[6]),
-        (Call::FreeBlocks, _) => add(QUESTIONS[5]),
+        (Call::TakeFile { .. }, _) => note_file(before, machine, branches),
+        (Call::UpdateFailed { status }, _) => branches.add(match is_client_error(*status) {
+            true => "update failed: 400-499",
+            false => "update failed: other",
+        }),
+        (Call::FixedFailed { status }, _) => branches.add(match before.requests.failures {
+            _ if is_client_error(*status) => "fixed failed: 400-499",
+            5 => "fixed failed: k is 5",
+            _ => "fixed failed: k below 5",
+        }),
+        (Call::Due, _) => note_due(before, machine, counts),
+        (Call::Ceiling { slot }, Answer::Ceiling(rate)) => branches.add(match rate {
+            Some((0, _)) => "ceiling: rate 0",
+            Some(_) => "ceiling: a rate above 0",
+            None if is_covered(machine, *slot) => "ceiling: no rate, below floor",
+            None => "ceiling: no rate",
+        }),
+        (Call::FreeBlocks, _) => branches.add(match before.held.len() {
+            0 => "free blocks: all",
+            16 => "free blocks: none",
+            _ => "free blocks: some",
+        }),
         _ => {}
     }
 }
 
-/// Would the slot have a rate, if it weren't below the floor?
-fn covered_below_floor(machine: &Machine, slot: u64) -> bool {
+/// Does a file cover the slot, be it below the floor or not?
+fn is_covered(machine: &Machine, slot: u64) -> bool {
     let files = machine.schedule.files.iter();
     files.flat_map(|file| &file.records).any(|record| {
         let start = u64::from(record.start_slot);
@@ -145,60 +136,68 @@ fn covered_below_floor(machine: &Machine, slot: u64) -> bool {
     })
 }
 
-fn note_tick(before: &Before, machine: &Machine, second: u64, add: &mut impl FnMut(&'static str)) {
-    let month = crate::reference::schedule::month_of_second;
-    add(match before.clock {
-        None => TICKS[0],
-        Some(clock) if second == clock => TICKS[1],
-        Some(clock) if second < clock => TICKS[2],
-        Some(clock) if month(clock) == month(second) => TICKS[3],
-        Some(_) => TICKS[4],
+fn note_tick(before: &Before, machine: &Machine, second: u64, branches: &mut Branches) {
+    branches.add(match before.clock {
+        None => "tick: clock was unset",
+        Some(clock) if second == clock => "tick: the same second",
+        Some(clock) if second < clock => "tick: back",
+        Some(clock) if month_of_second(clock) == month_of_second(second) => {
+            "tick: forward within the month"
+        }
+        Some(_) => "tick: forward over a month's end",
     });
     if machine.schedule.floor > before.floor {
-        add(TICKS[5]);
+        branches.add("tick: floor raised");
     }
     if machine.schedule.held() != before.held {
-        add(TICKS[6]);
+        branches.add("tick: a held month given up");
     }
     if machine.command > before.command {
-        add(TICKS[7]);
+        branches.add("tick: command up");
     }
     if machine.command < before.command {
-        add(TICKS[8]);
+        branches.add("tick: command down");
     }
 }
 
-fn note_file(before: &Before, machine: &Machine, file: &File, add: &mut impl FnMut(&'static str)) {
+fn note_file(before: &Before, machine: &Machine, branches: &mut Branches) {
+    let Some(file) = machine.schedule.files.last() else {
+        return;
+    };
     let months = months_of(file);
     match file.segment {
-        Segment::Yearly { .. } => add(FILES[0]),
-        Segment::Monthly { .. } => add(FILES[1]),
-        _ => {
-            add(FILES[2]);
-            let flag_as_wanted = file.flag == before.requests.wanted_flag;
-            add(FILES[3 + usize::from(flag_as_wanted)]);
-            if months.is_empty() {
-                add(FILES[5]);
-            }
-            if months.len() > 1 {
-                add(FILES[6]);
-            }
-        }
+        Segment::Yearly { .. } => branches.add("file: yearly"),
+        Segment::Monthly { .. } => branches.add("file: monthly"),
+        _ => note_update(before, file.flag, months.len(), branches),
     }
-    let below = months.iter().filter(|month| **month < before.floor).count();
-    if below > 0 {
-        let wholly = below == months.len();
-        add(FILES[7 + usize::from(!wholly)]);
+    let (below, kept): (Vec<u16>, Vec<u16>) =
+        months.iter().partition(|month| **month < before.floor);
+    match (below.is_empty(), kept.is_empty()) {
+        (false, true) => branches.add("file: wholly below floor"),
+        (false, false) => branches.add("file: partly below floor"),
+        _ => {}
     }
-    let kept = || months.iter().filter(|month| **month >= before.floor);
-    if kept().any(|month| before.held.contains(month)) {
-        add(FILES[9]);
+    if kept.iter().any(|month| before.held.contains(month)) {
+        branches.add("file: a month held before");
     }
-    if kept().any(|month| !before.held.contains(month)) {
-        add(FILES[10]);
+    if kept.iter().any(|month| !before.held.contains(month)) {
+        branches.add("file: a month not held before");
     }
     if machine.schedule.held().len() == 16 {
-        add(FILES[11]);
+        branches.add("file: 16 months held after it");
+    }
+}
+
+fn note_update(before: &Before, flag: Option<u8>, months: usize, branches: &mut Branches) {
+    branches.add("file: update");
+    branches.add(match flag == before.requests.wanted_flag {
+        true => "file: update with the flag w",
+        false => "file: update with another flag than w",
+    });
+    match months {
+        0 => branches.add("file: update without rates"),
+        1 => {}
+        _ => branches.add("file: update over a month's end"),
     }
 }
 
@@ -210,12 +209,12 @@ fn note_due(before: &Before, machine: &Machine, counts: &mut Counts) {
         counts.windows.add(WINDOWS[usize::from(digit)]);
     }
     counts.branches.add(match reason {
-        Reason::UpdateTime => DUE[0],
-        Reason::Window => DUE[1],
-        Reason::Retry => DUE[2],
-        Reason::NothingWanted => DUE[3],
-        Reason::AlreadyHeld => DUE[4],
-        Reason::NotYet => DUE[5],
-        Reason::OutsideWindow => DUE[6],
+        Reason::UpdateTime => "due: update",
+        Reason::Window => "due: fixed in the window",
+        Reason::Retry => "due: fixed by k above 0",
+        Reason::NothingWanted => "due: nothing, w is none",
+        Reason::AlreadyHeld => "due: nothing, w is h",
+        Reason::NotYet => "due: nothing, clock before f",
+        Reason::OutsideWindow => "due: nothing, outside the window",
     });
 }

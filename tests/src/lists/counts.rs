@@ -3,7 +3,7 @@
 
 use std::collections::BTreeMap;
 
-use super::branches::{branches, window_branches};
+use super::branches::{BRANCHES, WINDOWS};
 use crate::call::Answer;
 use crate::generate::shapes::SHAPES;
 use crate::generate::spoil::all_spoils;
@@ -83,8 +83,8 @@ impl Counts {
         }
         let shapes: Vec<&str> = SHAPES.iter().map(|shape| shape.words).collect();
         self.shapes.settle("lists by shape", &shapes);
-        self.branches.settle("branches", &branches());
-        self.windows.settle("due in the window", &window_branches());
+        self.branches.settle("branches", &BRANCHES);
+        self.windows.settle("due in the window", &WINDOWS);
         let spoils: Vec<&str> = all_spoils().map(|spoil| spoil.words).collect();
         self.spoils.settle("spoilt", &spoils);
         println!("installs: {:?}", self.installs);

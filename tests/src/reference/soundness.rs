@@ -93,29 +93,30 @@ fn records_of(first: u32, block: &[u8]) -> Vec<Record> {
     records
 }
 
+/// A held month's block as a file. Nothing where it has no rate at all: no
+/// list of files leads there.
+fn file_of(month: u16, block: &[u8]) -> Option<File> {
+    let slots = 48 * days_of_month(month) as usize;
+    let records = records_of(first_slot(month), &block[..slots]);
+    (!records.is_empty()).then_some(File {
+        format: 202,
+        segment: Segment::Monthly { month },
+        segment_value: 0,
+        created: 0,
+        records,
+        flag: None,
+        next: None,
+        result: None,
+    })
+}
+
 /// The machine that a sound unit and a sound store stand for, its months as
-/// files. Nothing where a held month has no rate at all: no list of files
-/// leads there.
+/// files. Nothing where a held month has no rate.
 pub fn machine_of(unit: &Unit, store: &[u8]) -> Option<Machine> {
-    let mut files = Vec::new();
-    for (month, block) in unit.held() {
-        let bytes = &store[block * BLOCK_LENGTH..][..BLOCK_LENGTH];
-        let slots = 48 * days_of_month(month) as usize;
-        let records = records_of(first_slot(month), &bytes[..slots]);
-        if records.is_empty() {
-            return None;
-        }
-        files.push(File {
-            format: 202,
-            segment: Segment::Monthly { month },
-            segment_value: 0,
-            created: 0,
-            records,
-            flag: None,
-            next: None,
-            result: None,
-        });
-    }
+    let files: Option<Vec<File>> = unit
+        .held()
+        .map(|(month, block)| file_of(month, &store[block * BLOCK_LENGTH..][..BLOCK_LENGTH]))
+        .collect();
     let flag = |flag: u8| (flag != NO_FLAG).then_some(flag);
     Some(Machine {
         id: unit.id.to_vec(),
@@ -128,7 +129,7 @@ pub fn machine_of(unit: &Unit, store: &[u8]) -> Option<Machine> {
         clock: (unit.clock_set == 1).then_some(u64::from(unit.clock)),
         schedule: Schedule {
             floor: unit.floor,
-            files,
+            files: files?,
         },
         requests: Requests {
             wanted_flag: flag(unit.wanted_flag),
