@@ -5,13 +5,14 @@ use std::collections::BTreeSet;
 
 use super::counts::Counts;
 use crate::call::{Answer, Call};
+use crate::reference::calendar::END;
 use crate::reference::requests::{is_client_error, Reason, Requests};
 use crate::reference::schedule::{month_of_second, months_of};
 use crate::reference::{Machine, Segment};
 use crate::tally::Branches;
 
 /// Every branch that must come.
-pub const BRANCHES: [&str; 42] = [
+pub const BRANCHES: [&str; 48] = [
     "tick: clock was unset",
     "tick: the same second",
     "tick: back",
@@ -35,11 +36,17 @@ pub const BRANCHES: [&str; 42] = [
     "file: a month held before",
     "file: a month not held before",
     "file: 16 months held after it",
+    "file: without rates, 16 months held",
+    "file: yearly, refused with 14",
+    "file: monthly, refused with 14",
+    "file: update, refused with 14",
     "update failed: 400-499",
     "update failed: other",
+    "update failed: u past T",
     "fixed failed: 400-499",
     "fixed failed: k below 5",
     "fixed failed: k is 5",
+    "fixed failed: f past T",
     "due: update",
     "due: fixed in the window",
     "due: fixed by k above 0",
@@ -91,10 +98,15 @@ impl Before {
     }
 }
 
-/// Counts the branches of a call that wasn't refused.
+/// Counts the branches of a call, of a refused one only those of cause 14.
 pub fn note(before: &Before, machine: &Machine, call: &Call, answer: Answer, counts: &mut Counts) {
     let branches = &mut counts.branches;
     match (call, answer) {
+        (Call::TakeFile { name, .. }, Answer::Refused(14)) => branches.add(match name[2] {
+            b'1' => "file: yearly, refused with 14",
+            b'2' => "file: monthly, refused with 14",
+            _ => "file: update, refused with 14",
+        }),
         (_, Answer::Refused(_)) => {}
         (Call::Tick { second }, _) => note_tick(before, machine, *second, branches),
         (Call::ClockLost, _) => branches.add(match before.clock {
@@ -102,15 +114,9 @@ pub fn note(before: &Before, machine: &Machine, call: &Call, answer: Answer, cou
             None => "clock lost: was unset",
         }),
         (Call::TakeFile { .. }, _) => note_file(before, machine, branches),
-        (Call::UpdateFailed { status }, _) => branches.add(match is_client_error(*status) {
-            true => "update failed: 400-499",
-            false => "update failed: other",
-        }),
-        (Call::FixedFailed { status }, _) => branches.add(match before.requests.failures {
-            _ if is_client_error(*status) => "fixed failed: 400-499",
-            5 => "fixed failed: k is 5",
-            _ => "fixed failed: k below 5",
-        }),
+        (Call::UpdateFailed { status } | Call::FixedFailed { status }, _) => {
+            note_failure(before, machine, call, *status, branches)
+        }
         (Call::Due, _) => note_due(before, machine, counts),
         (Call::Ceiling { slot }, Answer::Ceiling(rate)) => branches.add(match rate {
             Some((0, _)) => "ceiling: rate 0",
@@ -124,6 +130,29 @@ pub fn note(before: &Before, machine: &Machine, call: &Call, answer: Answer, cou
             _ => "free blocks: some",
         }),
         _ => {}
+    }
+}
+
+fn note_failure(
+    before: &Before,
+    machine: &Machine,
+    call: &Call,
+    status: u64,
+    branches: &mut Branches,
+) {
+    let update = matches!(call, Call::UpdateFailed { .. });
+    branches.add(match (update, is_client_error(status)) {
+        (true, true) => "update failed: 400-499",
+        (true, false) => "update failed: other",
+        (false, true) => "fixed failed: 400-499",
+        (false, false) if before.requests.failures == 5 => "fixed failed: k is 5",
+        (false, false) => "fixed failed: k below 5",
+    });
+    if update && machine.requests.update_at >= END {
+        branches.add("update failed: u past T");
+    }
+    if !update && machine.requests.fixed_at >= END {
+        branches.add("fixed failed: f past T");
     }
 }
 
@@ -185,6 +214,9 @@ fn note_file(before: &Before, machine: &Machine, branches: &mut Branches) {
     }
     if machine.schedule.held().len() == 16 {
         branches.add("file: 16 months held after it");
+        if months.is_empty() {
+            branches.add("file: without rates, 16 months held");
+        }
     }
 }
 
