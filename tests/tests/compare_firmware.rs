@@ -155,6 +155,7 @@ fn installs_and_requests() {
     let mut others = Random::new(REQUEST_SEED + 1);
     let mut installs = Tally::new("jag_install");
     let mut requests = Tally::new("jag_request");
+    let mut no_unit = None;
     for _ in 0..INPUTS {
         let made = outputs::install(&mut random);
         let done = firmware::install(&made.id, &made.mac, made.panel, made.inverter, made.minutes);
@@ -166,8 +167,10 @@ fn installs_and_requests() {
             Ok(()) => request(&made.id, &made.mac, &segment, room),
             Err(_) => Err(4),
         };
-        if due.is_ok() {
-            assert_eq!(done.unit, fresh(&made, done.unit.months));
+        match due {
+            Ok(()) => assert_eq!(done.unit, fresh(&made, done.unit.months)),
+            // 'No unit' is one fixed value, whatever was given.
+            Err(_) => assert_eq!(*no_unit.get_or_insert(done.unit), done.unit),
         }
         let mut buffer = Lent::new(room);
         let written = firmware::request(done.unit, &segment, buffer.room());

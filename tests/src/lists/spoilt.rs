@@ -117,8 +117,9 @@ pub fn install(install: &Install, counts: &mut Counts) -> Result<(), String> {
         Call::FreeBlocks,
     ];
     for call in &calls {
-        one_call(done.unit, &store, &store, call)?;
-        one_call(done.unit, &store[1..], &store, call)?;
+        let told = |difference: String| format!("no unit, {}: {difference}", call.line());
+        one_call(done.unit, &store, &store, call).map_err(told)?;
+        one_call(done.unit, &store[1..], &store, call).map_err(told)?;
     }
     same("check of no unit", firmware::check(done.unit, &store), 4)
 }
