@@ -11,12 +11,10 @@ test:
 
 # Times reading beside a fast Rust reader; judges nothing.
 bench:
-	@mkdir -p target
-	@{ rt staticlib boundary && rt staticlib jagwelu; } >target/bench.log 2>&1 || { cat target/bench.log; exit 1; }
+	@scripts/archive boundary && scripts/archive jagwelu
 	@CARGO_TARGET_DIR=$(CURDIR)/target/cargo cargo run --quiet --release --offline --locked --manifest-path tests/Cargo.toml --features linked --bin bench
 
 # The long run of lists of calls: the library that firmware links beside the plain machine of document 01.
 lists:
-	@mkdir -p target
-	@{ rt staticlib boundary && rt staticlib jagwelu; } >target/lists.log 2>&1 || { cat target/lists.log; exit 1; }
+	@scripts/archive boundary && scripts/archive jagwelu
 	@CARGO_TARGET_DIR=$(CURDIR)/target/cargo cargo run --quiet --release --offline --locked --manifest-path tests/Cargo.toml --features linked --bin lists

@@ -15,12 +15,7 @@ finish() {
 }
 
 for library in boundary jagwelu; do
-    if ! rt staticlib "$library" >"$log" 2>&1; then
-        cat "$log"
-        echo "error: the static library of $library was not built"
-        finish 0 1
-    fi
-    tail -n 1 "$log"
+    scripts/archive "$library" || finish 0 1
 done
 
 CARGO_TARGET_DIR=$root/target/cargo cargo test --release --offline --locked --no-fail-fast \
