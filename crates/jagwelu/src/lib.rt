@@ -85,22 +85,27 @@ pub extern "C" fn jag_take_file(
     held::hand(unit, done)
 }
 
+// A request of that kind failed.
+fn failed(unit: HeldUnit, kind: Kind, status: u64) -> Handed
+    ensures { λ r. ⌜ r ≡ handed unit (failureOf (opened unit) kind status) ⌝ }
+{
+    let opened = held::open(unit);
+    let done = opened.failure(kind, status);
+    held::hand(unit, done)
+}
+
 #[no_mangle]
 pub extern "C" fn jag_update_failed(unit: HeldUnit, status: u64) -> Handed
     ensures { λ r. ⌜ r ≡ handed unit (failureOf (opened unit) KindOf.Update status) ⌝ }
 {
-    let opened = held::open(unit);
-    let done = opened.failure(Kind::Update, status);
-    held::hand(unit, done)
+    failed(unit, Kind::Update, status)
 }
 
 #[no_mangle]
 pub extern "C" fn jag_fixed_failed(unit: HeldUnit, status: u64) -> Handed
     ensures { λ r. ⌜ r ≡ handed unit (failureOf (opened unit) KindOf.Fixed status) ⌝ }
 {
-    let opened = held::open(unit);
-    let done = opened.failure(Kind::Fixed, status);
-    held::hand(unit, done)
+    failed(unit, Kind::Fixed, status)
 }
 
 #[no_mangle]

@@ -1,7 +1,7 @@
--- `jagwelu::jag_fixed_failed` meets its contract. Assumes nothing.
+-- `jagwelu::failed` meets its contract. Assumes nothing.
 use borrow.Author.Needs.{needs}
-use Rattle.jagwelu.proofs.jag_fixed_failed.Statement.{statement}
-use Rattle.jagwelu.proofs.jag_fixed_failed.Tie as tie
+use Rattle.jagwelu.proofs.failed.Statement.{statement}
+use Rattle.jagwelu.proofs.failed.Tie as tie
 
 open-requires : tie.Need-open-requires
 open-requires c κs = search needs
@@ -15,5 +15,5 @@ hand-requires c κs = search needs
 returns : tie.Need-returns
 returns c = simp (c .before .before .«open» .ensures, c .before .failure .ensures, c .hand .ensures)
 
-pub jag-fixed-failed-spec : {M : Type 1} → statement M
-jag-fixed-failed-spec = tie.close (tie.spec open-requires failure-requires hand-requires returns)
+pub failed-spec : {M : Type 1} → statement M
+failed-spec = tie.close (tie.spec open-requires failure-requires hand-requires returns)
