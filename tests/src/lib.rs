@@ -5,7 +5,8 @@
 //! `generate` makes the inputs, `lent` the buffers, `tally` counts what they
 //! reach. The libraries under test (feature `linked`) are `subject`, its
 //! readers and writers alone, and `firmware`, all that firmware calls, which
-//! `lists` runs beside the plain machine.
+//! `lists` runs beside the plain machine. `script` has calls and answers as the
+//! text that the program `replay` reads and prints.
 
 pub mod call;
 pub mod fast;
@@ -15,6 +16,7 @@ pub mod lent;
 #[cfg(feature = "linked")]
 pub mod lists;
 pub mod reference;
+pub mod script;
 #[cfg(feature = "linked")]
 pub mod subject;
 pub mod tally;

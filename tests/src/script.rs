@@ -1,0 +1,125 @@
+//! Calls as the lines that `replay` reads, and answers as the lines that it
+//! prints.
+
+use crate::call::{Answer, Call, Due};
+use crate::generate::Random;
+use crate::reference::Machine;
+
+/// 'A line up to 65,536 bytes without its 0A is read.'
+pub const LINE_MAX: usize = 65_536;
+
+/// Hex digits of either case.
+fn hex(bytes: &[u8], random: &mut Random) -> String {
+    let mut digits = String::with_capacity(2 * bytes.len());
+    let upper = random.once_in(2);
+    for byte in bytes {
+        match upper {
+            true => digits.push_str(&format!("{byte:02X}")),
+            false => digits.push_str(&format!("{byte:02x}")),
+        }
+    }
+    digits
+}
+
+/// Bytes as a word: as they are where they can stand in a line, else, and at
+/// times anyway, `hex:` and their hex digits.
+fn word(bytes: &[u8], random: &mut Random) -> Vec<u8> {
+    let parts = bytes.iter().any(|byte| matches!(byte, b' ' | b'\n'));
+    let plain = !parts && !bytes.is_empty() && !bytes.starts_with(b"hex:");
+    if plain && !random.once_in(4) {
+        return bytes.to_vec();
+    }
+    format!("hex:{}", hex(bytes, random)).into_bytes()
+}
+
+fn joined(words: &[&[u8]]) -> Vec<u8> {
+    words.join(&b' ')
+}
+
+/// The line of a call.
+pub fn call_line(call: &Call, random: &mut Random) -> Vec<u8> {
+    match call {
+        Call::Tick { second } => format!("tick {second}").into_bytes(),
+        Call::ClockLost => b"lost".to_vec(),
+        Call::TakeFile { name, body } => {
+            let digits = match body.is_empty() {
+                true => "-".to_string(),
+                false => hex(body, random),
+            };
+            joined(&[b"take", &word(name, random), digits.as_bytes()])
+        }
+        Call::UpdateFailed { status } => format!("failure update {status}").into_bytes(),
+        Call::FixedFailed { status } => format!("failure fixed {status}").into_bytes(),
+        Call::Due => b"due".to_vec(),
+        Call::Ceiling { slot } => format!("ceiling {slot}").into_bytes(),
+        Call::Command => b"command".to_vec(),
+        Call::FreeBlocks => b"free".to_vec(),
+    }
+}
+
+/// The line of installing: a plain ID is written with its digits' characters.
+pub fn install_line(id: &[u8], mac: &[u8], settings: [u64; 3], random: &mut Random) -> Vec<u8> {
+    let digits: Vec<u8> = id.iter().map(|digit| b'0' + digit).collect();
+    let id = match random.once_in(4) {
+        true => word(id, random),
+        false => digits,
+    };
+    let numbers = settings.map(|number| number.to_string());
+    joined(&[
+        b"install",
+        &id,
+        &word(mac, random),
+        numbers[0].as_bytes(),
+        numbers[1].as_bytes(),
+        numbers[2].as_bytes(),
+    ])
+}
+
+/// The line of an answer.
+pub fn answer_line(answer: Answer) -> String {
+    match answer {
+        Answer::Refused(cause) => format!("refused {cause}"),
+        Answer::Accepted => "accepted".to_string(),
+        Answer::Due(Due::Nothing) => "nothing".to_string(),
+        Answer::Due(Due::Update) => "update".to_string(),
+        Answer::Due(Due::Fixed(flag)) => format!("fixed {flag}"),
+        Answer::Ceiling(Some((rate, percent))) => format!("rate {rate} {percent}"),
+        Answer::Ceiling(None) => "none".to_string(),
+        Answer::Number(number) => number.to_string(),
+    }
+}
+
+/// The line of `state`, its months without their blocks: the machine has none.
+pub fn state_line(machine: &Machine) -> String {
+    let flag = |flag: Option<u8>| flag.map_or("none".to_string(), |flag| flag.to_string());
+    let clock = machine
+        .clock
+        .map_or("unset".to_string(), |second| second.to_string());
+    let months: Vec<String> = machine
+        .schedule
+        .held()
+        .iter()
+        .map(|month| month.to_string())
+        .collect();
+    let held = match months.is_empty() {
+        true => "-".to_string(),
+        false => months.join(","),
+    };
+    let requests = &machine.requests;
+    format!(
+        "clock {clock} floor {} w {} h {} k {} f {} u {} command {} held {held}",
+        machine.schedule.floor,
+        flag(requests.wanted_flag),
+        flag(requests.held_flag),
+        requests.failures,
+        requests.fixed_at,
+        requests.update_at,
+        machine.command,
+    )
+}
+
+/// The line of `block`.
+pub fn block_line(machine: &Machine, month: u16) -> String {
+    let bytes = machine.schedule.block_in_layers(month);
+    bytes.iter().map(|byte| format!("{byte:02x}")).collect()
+}
