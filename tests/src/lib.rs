@@ -16,8 +16,11 @@ pub mod generate;
 pub mod lent;
 #[cfg(feature = "linked")]
 pub mod lists;
+#[cfg(feature = "linked")]
+pub mod pair;
 pub mod reference;
 pub mod script;
 #[cfg(feature = "linked")]
 pub mod subject;
 pub mod tally;
+pub mod timing;
