@@ -9,12 +9,19 @@ demo:
 test:
 	@scripts/test
 
-# Times reading beside a fast Rust reader; judges nothing.
+# Times the library that firmware links beside safe Rust with fixed arrays; judges nothing. Calls between crates are inlined, so that
+# the library is called as C would call it.
 bench:
-	@scripts/archive boundary && scripts/archive jagwelu
-	@CARGO_TARGET_DIR=$(CURDIR)/target/cargo cargo run --quiet --release --offline --locked --manifest-path tests/Cargo.toml --features linked --bin bench
+	@mkdir -p target
+	@for crate in boundary jagwelu; do rt staticlib $$crate >target/bench.log 2>&1 || { cat target/bench.log; exit 1; }; done
+	@CARGO_PROFILE_RELEASE_LTO=thin CARGO_TARGET_DIR=$(CURDIR)/target/bench cargo run --quiet --release --offline --locked --manifest-path tests/Cargo.toml --features linked --bin bench
 
-# The long run of lists of calls: the library that firmware links beside the plain machine of document 01.
-lists:
-	@scripts/archive boundary && scripts/archive jagwelu
-	@CARGO_TARGET_DIR=$(CURDIR)/target/cargo cargo run --quiet --release --offline --locked --manifest-path tests/Cargo.toml --features linked --bin lists
+# Fuzzes the library against the second implementation: make fuzz TARGET=reading|calls SECONDS=60. No part of the gate.
+TARGET = all
+SECONDS = 60
+fuzz:
+	@scripts/fuzz $(TARGET) $(SECONDS)
+
+# RAM, stack and code of the library that firmware links.
+sizes:
+	@scripts/sizes

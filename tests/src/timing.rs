@@ -3,7 +3,7 @@
 use std::time::Instant;
 
 /// Rounds of a race; each times both, one after the other.
-const ROUNDS: usize = 1_001;
+const ROUNDS: usize = 10_001;
 
 /// Nanoseconds of one call: the least of all rounds.
 pub struct Row {

@@ -1,0 +1,160 @@
+//! A list of calls made from an input's bytes: most of them near the clock
+//! that the unit would have, some with any values.
+
+use compare::call::Call;
+use compare::generate::almanac;
+use compare::generate::draft::{ascii, Draft, RecordParts};
+
+use crate::file::{address, change, lawful, raw};
+use crate::input::Input;
+
+/// Calls of a list at most.
+const CALLS_MAX: usize = 40;
+const DAY: u64 = 86_400;
+const SLOT: u64 = 1_800;
+const END: u64 = almanac::SLOTS * SLOT;
+/// April 2026, where the clock is thought to be before the first tick.
+const START: u64 = 828_230_400;
+const STATUSES: [u64; 8] = [0, 199, 300, 399, 400, 499, 500, 599];
+
+/// The month of a second below the end.
+fn month_of(second: u64) -> u64 {
+    let digits = almanac::moment(second.min(END - 1));
+    let pair = |place: usize| u64::from(digits[place]) * 10 + u64::from(digits[place + 1]);
+    pair(2) * 12 + pair(4) - 1
+}
+
+/// A second: near the clock, at an edge of slot, day or month, or any.
+fn second(clock: u64, input: &mut Input) -> u64 {
+    let kind = input.byte();
+    let near = input.number(2);
+    match kind % 8 {
+        0 => clock + 1 + near % 16,
+        1 => clock + near,
+        2 => clock.saturating_sub(near),
+        3 => clock / SLOT * SLOT + near % 64 * SLOT - u64::from(kind >> 7),
+        4 => clock / DAY * DAY + near % 145 * 600,
+        5 => almanac::first_slot((month_of(clock) + near % 18).min(1_199)) * SLOT,
+        6 => input.number(4),
+        _ => input.number(8),
+    }
+}
+
+/// A record of a whole month, its rates all one value.
+fn month_record(month: u64, rate: u8) -> RecordParts {
+    let mut record = RecordParts {
+        schedule: vec![0; 10],
+        start: almanac::month_start(month),
+        count: almanac::digits(almanac::slots(month) as u64, 5),
+        rates: vec![rate; almanac::slots(month)],
+        ..RecordParts::default()
+    };
+    record.seal();
+    record
+}
+
+/// A year or a month of a fixed schedule near the clock.
+fn fixed_schedule(clock: u64, yearly: bool, input: &mut Input) -> Draft {
+    let mut draft = lawful(&mut Input::new(if yearly { &[2] } else { &[1] }));
+    let months = if yearly { 13 } else { 1 };
+    let first = (month_of(clock) + input.below(20)).saturating_sub(2);
+    let first = first.min(1_200 - months);
+    let segment = match yearly {
+        true => almanac::digits(9_990 + input.below(10), 4),
+        false => almanac::digits(first / 12 * 100 + first % 12 + 1, 4),
+    };
+    draft.name.segment = ascii(&segment);
+    let rate = input.byte() % 101;
+    draft.records = (first..first + months)
+        .map(|month| month_record(month, rate))
+        .collect();
+    draft
+}
+
+/// An update near the clock, its rates rising by a step.
+fn update(clock: u64, input: &mut Input) -> Draft {
+    let mut draft = lawful(&mut Input::new(&[0]));
+    let record = &mut draft.records[0];
+    let n = input.below(337);
+    let slot = (clock / SLOT + input.number(2)).saturating_sub(1_000);
+    let slot = slot.min(almanac::SLOTS - n.max(1));
+    let (rate, step) = (u64::from(input.byte()), u64::from(input.byte()));
+    record.rates = (0..n).map(|i| ((rate + i * step) % 101) as u8).collect();
+    record.count = almanac::digits(n, 5);
+    record.start = almanac::start(slot);
+    record.flag = vec![input.byte() % 10];
+    record.next = almanac::moment((clock + input.number(3)).min(END - 1));
+    record.seal();
+    draft
+}
+
+/// A file: near the clock, changed, or any bytes.
+fn file(clock: u64, plant: &[u8], input: &mut Input) -> Call {
+    let kind = input.byte();
+    if kind >= 240 {
+        let length = input.byte().into();
+        let (name, body) = raw(input.bytes(length));
+        return Call::TakeFile { name, body };
+    }
+    let mut draft = match kind % 4 {
+        0 => fixed_schedule(clock, true, input),
+        1 => fixed_schedule(clock, false, input),
+        2 => update(clock, input),
+        _ => lawful(input),
+    };
+    address(&mut draft, plant);
+    if kind >= 160 {
+        change(&mut draft, input);
+    }
+    Call::TakeFile {
+        name: draft.name.bytes(),
+        body: draft.body(),
+    }
+}
+
+fn status(input: &mut Input) -> u64 {
+    let kind = input.byte();
+    match kind {
+        0..192 => STATUSES[usize::from(kind) % STATUSES.len()],
+        192..240 => input.number(2) % 700,
+        _ => input.number(8),
+    }
+}
+
+fn slot(clock: u64, input: &mut Input) -> u64 {
+    match input.byte() {
+        0..224 => (clock / SLOT + input.number(2)).saturating_sub(2_000),
+        _ => input.number(8),
+    }
+}
+
+/// The calls of an input for a plant.
+pub fn calls(plant: &[u8], input: &mut Input) -> Vec<Call> {
+    let mut clock = START;
+    let mut list = Vec::new();
+    while !input.is_empty() && list.len() < CALLS_MAX {
+        let call = match input.byte() % 16 {
+            0..4 => Call::Tick {
+                second: second(clock, input),
+            },
+            4 => Call::ClockLost,
+            5..10 => file(clock, plant, input),
+            10 => Call::UpdateFailed {
+                status: status(input),
+            },
+            11 | 12 => Call::FixedFailed {
+                status: status(input),
+            },
+            13 => Call::Due,
+            14 => Call::Ceiling {
+                slot: slot(clock, input),
+            },
+            _ => Call::FreeBlocks,
+        };
+        if let Call::Tick { second } = call {
+            clock = if second < END { second } else { clock };
+        }
+        list.push(call);
+    }
+    list
+}
