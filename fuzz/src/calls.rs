@@ -4,6 +4,7 @@
 use compare::call::Call;
 use compare::generate::almanac;
 use compare::generate::draft::{ascii, Draft, RecordParts};
+use compare::generate::Random;
 
 use crate::file::{address, change, lawful, raw};
 use crate::input::Input;
@@ -12,6 +13,9 @@ use crate::input::Input;
 const CALLS_MAX: usize = 40;
 const DAY: u64 = 86_400;
 const SLOT: u64 = 1_800;
+/// 21:10:00, where the window of check digit 0 begins, and its seconds.
+const FIRST_WINDOW: u64 = (21 * 60 + 10) * 60;
+const WINDOW: u64 = 20 * 60;
 const END: u64 = almanac::SLOTS * SLOT;
 /// April 2026, where the clock is thought to be before the first tick.
 const START: u64 = 828_230_400;
@@ -24,8 +28,15 @@ fn month_of(second: u64) -> u64 {
     pair(2) * 12 + pair(4) - 1
 }
 
-/// A second: near the clock, at an edge of slot, day or month, or any.
-fn second(clock: u64, input: &mut Input) -> u64 {
+/// The window of a check digit: its start and its end, and the seconds before
+/// them, on the clock's day.
+fn window_edge(clock: u64, digit: u8, which: u64) -> u64 {
+    let start = (FIRST_WINDOW + SLOT * u64::from(digit)) % DAY;
+    clock / DAY * DAY + start + which % 2 * WINDOW - which / 2 % 2
+}
+
+/// A second: near the clock, at an edge of slot, window or month, or any.
+fn second(clock: u64, digit: u8, input: &mut Input) -> u64 {
     let kind = input.byte();
     let near = input.number(2);
     match kind % 8 {
@@ -33,11 +44,21 @@ fn second(clock: u64, input: &mut Input) -> u64 {
         1 => clock + near,
         2 => clock.saturating_sub(near),
         3 => clock / SLOT * SLOT + near % 64 * SLOT - u64::from(kind >> 7),
-        4 => clock / DAY * DAY + near % 145 * 600,
+        4 => window_edge(clock, digit, near),
         5 => almanac::first_slot((month_of(clock) + near % 18).min(1_199)) * SLOT,
         6 => input.number(4),
         _ => input.number(8),
     }
+}
+
+/// A file of a format with no records yet.
+fn blank(format: u16, count: u64) -> Draft {
+    let mut draft = Draft::valid(301, &mut Random::new(0));
+    draft.format = format;
+    draft.name.format = format.to_string().into_bytes();
+    draft.count = almanac::digits(count, 6);
+    draft.records.clear();
+    draft
 }
 
 /// A record of a whole month, its rates all one value.
@@ -53,38 +74,41 @@ fn month_record(month: u64, rate: u8) -> RecordParts {
     record
 }
 
-/// A year or a month of a fixed schedule near the clock.
-fn fixed_schedule(clock: u64, yearly: bool, input: &mut Input) -> Draft {
-    let mut draft = lawful(&mut Input::new(if yearly { &[2] } else { &[1] }));
-    let months = if yearly { 13 } else { 1 };
+/// 13 months or one month of a fixed schedule near the clock.
+fn fixed_schedule(clock: u64, months: u64, input: &mut Input) -> Draft {
     let first = (month_of(clock) + input.below(20)).saturating_sub(2);
     let first = first.min(1_200 - months);
-    let segment = match yearly {
-        true => almanac::digits(9_990 + input.below(10), 4),
-        false => almanac::digits(first / 12 * 100 + first % 12 + 1, 4),
+    let (format, segment) = match months {
+        13 => (201, 9_990 + input.below(10)),
+        _ => (202, first / 12 * 100 + first % 12 + 1),
     };
-    draft.name.segment = ascii(&segment);
+    let mut draft = blank(format, months);
+    draft.name.segment = ascii(&almanac::digits(segment, 4));
     let rate = input.byte() % 101;
-    draft.records = (first..first + months)
-        .map(|month| month_record(month, rate))
-        .collect();
+    let record = |month| month_record(month, rate);
+    draft.records = (first..first + months).map(record).collect();
     draft
 }
 
 /// An update near the clock, its rates rising by a step.
 fn update(clock: u64, input: &mut Input) -> Draft {
-    let mut draft = lawful(&mut Input::new(&[0]));
-    let record = &mut draft.records[0];
     let n = input.below(337);
     let slot = (clock / SLOT + input.number(2)).saturating_sub(1_000);
     let slot = slot.min(almanac::SLOTS - n.max(1));
     let (rate, step) = (u64::from(input.byte()), u64::from(input.byte()));
-    record.rates = (0..n).map(|i| ((rate + i * step) % 101) as u8).collect();
-    record.count = almanac::digits(n, 5);
-    record.start = almanac::start(slot);
-    record.flag = vec![input.byte() % 10];
-    record.next = almanac::moment((clock + input.number(3)).min(END - 1));
+    let mut record = RecordParts {
+        schedule: vec![0; 10],
+        start: almanac::start(slot),
+        count: almanac::digits(n, 5),
+        rates: (0..n).map(|i| ((rate + i * step) % 101) as u8).collect(),
+        flag: vec![input.byte() % 10],
+        next: almanac::moment((clock + input.number(3)).min(END - 1)),
+        ..RecordParts::default()
+    };
     record.seal();
+    let mut draft = blank(203, 1);
+    draft.name.segment = b"0000".to_vec();
+    draft.records.push(record);
     draft
 }
 
@@ -97,8 +121,8 @@ fn file(clock: u64, plant: &[u8], input: &mut Input) -> Call {
         return Call::TakeFile { name, body };
     }
     let mut draft = match kind % 4 {
-        0 => fixed_schedule(clock, true, input),
-        1 => fixed_schedule(clock, false, input),
+        0 => fixed_schedule(clock, 13, input),
+        1 => fixed_schedule(clock, 1, input),
         2 => update(clock, input),
         _ => lawful(input),
     };
@@ -135,7 +159,7 @@ pub fn calls(plant: &[u8], input: &mut Input) -> Vec<Call> {
     while !input.is_empty() && list.len() < CALLS_MAX {
         let call = match input.byte() % 16 {
             0..4 => Call::Tick {
-                second: second(clock, input),
+                second: second(clock, plant[25], input),
             },
             4 => Call::ClockLost,
             5..10 => file(clock, plant, input),
