@@ -1,5 +1,5 @@
 # The two commands of the README, and what stands beside them.
-.PHONY: demo test bench lists
+.PHONY: demo test bench lists fuzz sizes
 
 # The lister on example 10 of document 01.
 demo:
@@ -13,8 +13,14 @@ test:
 # the library is called as C would call it.
 bench:
 	@mkdir -p target
-	@for crate in boundary jagwelu; do rt staticlib $$crate >target/bench.log 2>&1 || { cat target/bench.log; exit 1; }; done
+	@{ rt staticlib boundary && rt staticlib jagwelu; } >target/bench.log 2>&1 || { cat target/bench.log; exit 1; }
 	@CARGO_PROFILE_RELEASE_LTO=thin CARGO_TARGET_DIR=$(CURDIR)/target/bench cargo run --quiet --release --offline --locked --manifest-path tests/Cargo.toml --features linked --bin bench
+
+# The long run of lists of calls: the library that firmware links beside the plain machine of document 01.
+lists:
+	@mkdir -p target
+	@{ rt staticlib boundary && rt staticlib jagwelu; } >target/lists.log 2>&1 || { cat target/lists.log; exit 1; }
+	@CARGO_TARGET_DIR=$(CURDIR)/target/cargo cargo run --quiet --release --offline --locked --manifest-path tests/Cargo.toml --features linked --bin lists
 
 # Fuzzes the library against the second implementation: make fuzz TARGET=reading|calls SECONDS=60. No part of the gate.
 TARGET = all

@@ -1,11 +1,9 @@
 //! What the fuzz targets share: `input` takes values from libFuzzer's bytes,
-//! `file` makes names and bodies of them, `calls` lists of calls, `library`
-//! answers such a call.
+//! `file` makes names and bodies of them, `calls` lists of calls.
 
 pub mod calls;
 pub mod file;
 pub mod input;
-pub mod library;
 
 /// Makes a function over bytes the entry of libFuzzer. A panic ends the run
 /// and leaves the input in a file.

@@ -5,9 +5,11 @@
 //! unit written for speed, `generate` makes the inputs, `lent` the buffers,
 //! `tally` counts what they reach. The libraries under test (feature
 //! `linked`) are `subject`, its readers and writers alone, and `firmware`,
-//! all that firmware calls, which `lists` runs beside the plain machine. `script`
-//! has calls and answers as the text that the program `replay` reads and prints.
+//! all that firmware calls, which `lists` runs beside the plain machine and
+//! `both` beside `fixed`, with `timing`.
 
+#[cfg(feature = "linked")]
+pub mod both;
 pub mod call;
 pub mod fast;
 pub mod firmware;
@@ -16,10 +18,7 @@ pub mod generate;
 pub mod lent;
 #[cfg(feature = "linked")]
 pub mod lists;
-#[cfg(feature = "linked")]
-pub mod pair;
 pub mod reference;
-pub mod script;
 #[cfg(feature = "linked")]
 pub mod subject;
 pub mod tally;

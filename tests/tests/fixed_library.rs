@@ -2,12 +2,12 @@
 //! random calls to both, and units spoilt alike.
 #![cfg(feature = "linked")]
 
+use compare::both::{number, Both};
 use compare::firmware;
 use compare::fixed::{Unit, BLOCK};
 use compare::generate::almanac;
 use compare::generate::draft::{ascii, some_plant};
 use compare::generate::{outputs, Random};
-use compare::pair::{number, Pair};
 use compare::reference::calendar::{digits_of_slot, first_slot, SLOTS};
 use compare::reference::{write, Fields};
 use compare::tally::Tally;
@@ -19,17 +19,17 @@ const SPOIL_SEED: u64 = 120;
 const SPOILT: usize = 4_000;
 
 /// A fresh pair of any plant, its store's bytes any.
-fn some_pair(random: &mut Random) -> Pair {
+fn some_pair(random: &mut Random) -> Both {
     let id = some_plant(random);
     let mac = outputs::mac(random);
     let (panel, inverter) = (random.between(1, 2_000_000), random.between(1, 2_000_000));
-    let mut pair = Pair::install(&id, &mac, panel, inverter, random.between(5, 10));
+    let mut pair = Both::install(&id, &mac, panel, inverter, random.between(5, 10));
     pair.store = random.bytes(firmware::STORE_LENGTH);
     pair
 }
 
 /// The month of the clock, or any where it isn't set.
-fn month_now(pair: &Pair, random: &mut Random) -> u16 {
+fn month_now(pair: &Both, random: &mut Random) -> u16 {
     match pair.fixed.clock {
         Some(second) => compare::fixed::calendar::month_of_second(second),
         None => random.below(1_200) as u16,
@@ -46,7 +46,7 @@ fn damage(name: &mut [u8], body: &mut [u8], random: &mut Random) {
 }
 
 /// A name and body for the plant, near the clock; at times damaged.
-fn some_file(pair: &Pair, random: &mut Random) -> (Vec<u8>, Vec<u8>) {
+fn some_file(pair: &Both, random: &mut Random) -> (Vec<u8>, Vec<u8>) {
     let month = (month_now(pair, random) + random.below(16) as u16).saturating_sub(2);
     let format = random.pick(&[201, 202, 202, 203, 203]);
     let months = if format == 201 { 13 } else { 1 };
@@ -91,7 +91,7 @@ fn some_file(pair: &Pair, random: &mut Random) -> (Vec<u8>, Vec<u8>) {
 }
 
 /// A second: the next, some ahead, a month ahead, back, or any.
-fn some_second(pair: &Pair, random: &mut Random) -> u64 {
+fn some_second(pair: &Both, random: &mut Random) -> u64 {
     let now = u64::from(pair.fixed.clock.unwrap_or(820_000_000));
     match random.below(10) {
         0..3 => now + 1,
@@ -123,7 +123,7 @@ fn some_status(random: &mut Random) -> u64 {
     ])
 }
 
-fn some_slot(pair: &Pair, random: &mut Random) -> u64 {
+fn some_slot(pair: &Both, random: &mut Random) -> u64 {
     let now = u64::from(pair.fixed.clock.unwrap_or(0)) / 1_800;
     match random.below(8) {
         0 => random.pick(&[0, 1_753_199, 1_753_200, u64::MAX]),
@@ -133,7 +133,7 @@ fn some_slot(pair: &Pair, random: &mut Random) -> u64 {
 }
 
 /// One call to both, with values that suit the pair `like`; its cause.
-fn some_call(pair: &mut Pair, like: &Pair, random: &mut Random) -> u32 {
+fn some_call(pair: &mut Both, like: &Both, random: &mut Random) -> u32 {
     match random.below(20) {
         0..9 => {
             let (name, body) = some_file(like, random);
@@ -173,7 +173,7 @@ fn random_calls() {
 }
 
 /// Another value, near an edge or any.
-fn spoil_unit(pair: &mut Pair, random: &mut Random) {
+fn spoil_unit(pair: &mut Both, random: &mut Random) {
     let unit = &mut pair.unit;
     match random.below(14) {
         0 => unit.id[random.place(26)] = random.below(12) as u8,
@@ -199,14 +199,14 @@ fn spoil_unit(pair: &mut Pair, random: &mut Random) {
 }
 
 /// A byte of the store, often at the edges of a block and of its month.
-fn spoil_store(pair: &mut Pair, random: &mut Random) {
+fn spoil_store(pair: &mut Both, random: &mut Random) {
     let from_start = random.pick(&[0, 1_343, 1_344, 1_392, 1_440, 1_487]);
     let place = random.below(16) as usize * BLOCK + from_start;
     pair.store[place] = random.pick(&[0, 100, 101, 128, 254, 255]);
 }
 
 /// The library's unit and store as a unit with fixed arrays.
-fn in_arrays(pair: &Pair) -> Unit {
+fn in_arrays(pair: &Both) -> Unit {
     let mut fixed = pair.fixed.clone();
     let unit = &pair.unit;
     fixed.plant.id = unit.id;

@@ -5,12 +5,12 @@
 
 use std::hint::black_box;
 
+use compare::both::Both;
 use compare::fast;
 use compare::firmware::{self, FileAnswer};
 use compare::generate::cases::values;
 use compare::generate::draft::{ascii, PLANT_X};
 use compare::generate::Random;
-use compare::pair::Pair;
 use compare::reference::calendar::{digits_of_slot, first_slot, start_slot};
 use compare::reference::{write, Fields};
 use compare::timing::{print, race, Row};
@@ -61,8 +61,8 @@ fn second(start: &str) -> u64 {
 
 /// A pair that holds 16 months, March 2026 to June 2027, at a second not
 /// later than April 2026.
-fn full_pair(clock: u64, random: &mut Random) -> Pair {
-    let mut pair = Pair::install(&PLANT_X, b"012389ABCDEF", 4_000, 5_500, 5);
+fn full_pair(clock: u64, random: &mut Random) -> Both {
+    let mut pair = Both::install(&PLANT_X, b"012389ABCDEF", 4_000, 5_500, 5);
     assert_eq!(pair.tick(clock), 0);
     let yearly = yearly_file(random);
     assert_eq!(pair.take_file(&yearly.name, &yearly.body), 0);
@@ -115,7 +115,7 @@ fn race_reading(title: &'static str, calls: u32, file: &File) -> Row {
 
 /// The file into the months that the pair holds; each call finds the unit as
 /// it was before the first.
-fn race_taking(title: &'static str, calls: u32, pair: &Pair, file: &File) -> Row {
+fn race_taking(title: &'static str, calls: u32, pair: &Both, file: &File) -> Row {
     let mut tried = pair.clone();
     assert_eq!(tried.take_file(&file.name, &file.body), 0);
     tried.compare();
@@ -143,7 +143,7 @@ fn race_taking(title: &'static str, calls: u32, pair: &Pair, file: &File) -> Row
 }
 
 /// One second after the other; both clocks go on through the rounds.
-fn race_seconds(pair: &Pair) -> Row {
+fn race_seconds(pair: &Both) -> Row {
     let (mut unit, store) = (pair.unit, pair.store.as_slice());
     let mut fixed = pair.fixed.clone();
     let row = race(
@@ -158,7 +158,7 @@ fn race_seconds(pair: &Pair) -> Row {
             let _ = black_box(black_box(&mut fixed).tick(next));
         },
     );
-    let ended = Pair {
+    let ended = Both {
         unit,
         store: pair.store.clone(),
         fixed,
@@ -191,7 +191,7 @@ fn race_years(random: &mut Random) -> Row {
     )
 }
 
-fn race_ceiling(pair: &Pair) -> Row {
+fn race_ceiling(pair: &Both) -> Row {
     let first = u64::from(first_slot(APRIL_2026 - 1));
     (0..HELD_SLOTS).for_each(|place| pair.ask(first + place * 7 % HELD_SLOTS));
     let (unit, store) = (pair.unit, pair.store.as_slice());
@@ -213,7 +213,7 @@ fn race_ceiling(pair: &Pair) -> Row {
     )
 }
 
-fn race_checks(pair: &Pair) -> [Row; 2] {
+fn race_checks(pair: &Both) -> [Row; 2] {
     let (unit, store) = (pair.unit, pair.store.as_slice());
     assert_eq!(firmware::check(unit, store), 0);
     assert_eq!(pair.fixed.check(), Ok(()));
@@ -246,7 +246,7 @@ fn main() {
     let update = file(203, "202604290930", 336, random);
     let clock = second("202604100930");
     let full = full_pair(clock, random);
-    let mut empty = Pair::install(&PLANT_X, b"012389ABCDEF", 4_000, 5_500, 5);
+    let mut empty = Both::install(&PLANT_X, b"012389ABCDEF", 4_000, 5_500, 5);
     assert_eq!(empty.tick(clock), 0);
     let mut rows = vec![
         race_reading("yearly file read, 19,681 bytes", 4, &yearly),

@@ -6,7 +6,7 @@ use crate::fixed::{self, Month, BLOCK};
 
 /// Both units, and the library's store.
 #[derive(Clone)]
-pub struct Pair {
+pub struct Both {
     pub unit: firmware::Unit,
     pub store: Vec<u8>,
     pub fixed: fixed::Unit,
@@ -20,12 +20,12 @@ pub fn number<T>(answer: &Result<T, u8>) -> u32 {
     }
 }
 
-impl Pair {
+impl Both {
     /// Both installed with lawful values.
-    pub fn install(id: &[u8], mac: &[u8], panel: u64, inverter: u64, minutes: u64) -> Pair {
+    pub fn install(id: &[u8], mac: &[u8], panel: u64, inverter: u64, minutes: u64) -> Both {
         let done = firmware::install(id, mac, panel, inverter, minutes);
         assert_eq!(done.cause, 0, "lawful values");
-        Pair {
+        Both {
             unit: done.unit,
             store: vec![0; firmware::STORE_LENGTH],
             fixed: fixed::Unit::install(id, mac, panel, inverter, minutes).expect("lawful values"),
