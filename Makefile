@@ -1,5 +1,5 @@
 # The two commands of the README, and what stands beside them.
-.PHONY: demo test bench lists fuzz sizes
+.PHONY: demo test bench lists fuzz sizes libraries
 
 # The lister on example 10 of document 01.
 demo:
@@ -11,9 +11,7 @@ test:
 
 # Times the library that firmware links beside safe Rust with fixed arrays; judges nothing. Calls between crates are inlined, so that
 # the library is called as C would call it.
-bench:
-	@mkdir -p target
-	@{ rt staticlib boundary && rt staticlib jagwelu; } >target/bench.log 2>&1 || { cat target/bench.log; exit 1; }
+bench: libraries
 	@CARGO_PROFILE_RELEASE_LTO=thin CARGO_TARGET_DIR=$(CURDIR)/target/bench cargo run --quiet --release --offline --locked --manifest-path tests/Cargo.toml --features linked --bin bench
 
 # The long run of lists of calls: the library that firmware links beside the plain machine of document 01.
@@ -25,9 +23,14 @@ lists:
 # Fuzzes the library against the second implementation: make fuzz TARGET=reading|calls SECONDS=60. No part of the gate.
 TARGET = all
 SECONDS = 60
-fuzz:
+fuzz: libraries
 	@scripts/fuzz $(TARGET) $(SECONDS)
 
 # RAM, stack and code of the library that firmware links.
-sizes:
+sizes: libraries
 	@scripts/sizes
+
+# The static libraries, proved and built.
+libraries:
+	@mkdir -p target
+	@{ rt staticlib boundary && rt staticlib jagwelu; } >target/libraries.log 2>&1 || { cat target/libraries.log; exit 1; }
