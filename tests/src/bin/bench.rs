@@ -13,7 +13,7 @@ use compare::generate::draft::{ascii, PLANT_X};
 use compare::generate::Random;
 use compare::reference::calendar::{digits_of_slot, first_slot, start_slot};
 use compare::reference::{write, Fields};
-use compare::timing::{print, race, Row};
+use compare::timing::{least, print, race, Row};
 
 const SLOT_SECONDS: u64 = 1_800;
 /// April 2026, the first month of the yearly file.
@@ -98,7 +98,7 @@ fn compare_reading(file: &File) {
     assert_eq!(firmware::read(&file.name, &file.body), due);
 }
 
-fn race_reading(title: &'static str, calls: u32, file: &File) -> Row {
+fn race_reading(title: &str, calls: u32, file: &File) -> Row {
     compare_reading(file);
     let (name, body) = (file.name.as_slice(), file.body.as_slice());
     race(
@@ -115,7 +115,7 @@ fn race_reading(title: &'static str, calls: u32, file: &File) -> Row {
 
 /// The file into the months that the pair holds; each call finds the unit as
 /// it was before the first.
-fn race_taking(title: &'static str, calls: u32, pair: &Both, file: &File) -> Row {
+fn race_taking(title: &str, calls: u32, pair: &Both, file: &File) -> Row {
     let mut tried = pair.clone();
     assert_eq!(tried.take_file(&file.name, &file.body), 0);
     tried.compare();
@@ -240,7 +240,8 @@ fn race_checks(pair: &Both) -> [Row; 2] {
     [whole, unit_alone]
 }
 
-fn main() {
+/// All races, with the same inputs each time.
+fn races() -> Vec<Row> {
     let random = &mut Random::new(19_681);
     let yearly = yearly_file(random);
     let update = file(203, "202604290930", 336, random);
@@ -248,27 +249,23 @@ fn main() {
     let full = full_pair(clock, random);
     let mut empty = Both::install(&PLANT_X, b"012389ABCDEF", 4_000, 5_500, 5);
     assert_eq!(empty.tick(clock), 0);
+    let taking = "yearly file read and taken, 13 months";
     let mut rows = vec![
         race_reading("yearly file read, 19,681 bytes", 4, &yearly),
         race_reading("update of 336 slots read", 100, &update),
-        race_taking(
-            "yearly file read and taken, 13 months replaced",
-            4,
-            &full,
-            &yearly,
-        ),
-        race_taking(
-            "yearly file read and taken, 13 months new",
-            4,
-            &empty,
-            &yearly,
-        ),
+        race_taking(&format!("{taking} replaced"), 4, &full, &yearly),
+        race_taking(&format!("{taking} new"), 4, &empty, &yearly),
         race_taking("update of 336 slots read and taken", 20, &full, &update),
         race_seconds(&full),
         race_years(random),
         race_ceiling(&full),
     ];
     rows.extend(race_checks(&full));
+    rows
+}
+
+fn main() {
+    let rows = least(races);
     println!("16 months held, but none where they are new; buffers not cleared between calls");
     print(&rows);
 }
