@@ -47,7 +47,7 @@ fn move_update(record: &mut RecordParts, input: &mut Input) {
 }
 
 /// One part of the file, by number.
-fn part<'a>(draft: &'a mut Draft, which: u8, record: u8) -> &'a mut Vec<u8> {
+fn part(draft: &mut Draft, which: u8, record: u8) -> &mut Vec<u8> {
     let last = draft.records.len() - 1;
     let record = &mut draft.records[usize::from(record).min(last)];
     match which % PARTS {
