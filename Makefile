@@ -15,9 +15,7 @@ bench: libraries
 	@CARGO_PROFILE_RELEASE_LTO=thin CARGO_TARGET_DIR=$(CURDIR)/target/bench cargo run --quiet --release --offline --locked --manifest-path tests/Cargo.toml --features linked --bin bench
 
 # The long run of lists of calls: the library that firmware links beside the plain machine of document 01.
-lists:
-	@mkdir -p target
-	@{ rt staticlib boundary && rt staticlib jagwelu; } >target/lists.log 2>&1 || { cat target/lists.log; exit 1; }
+lists: libraries
 	@CARGO_TARGET_DIR=$(CURDIR)/target/cargo cargo run --quiet --release --offline --locked --manifest-path tests/Cargo.toml --features linked --bin lists
 
 # Fuzzes the library against the second implementation: make fuzz TARGET=reading|calls SECONDS=60. No part of the gate.
@@ -32,5 +30,4 @@ sizes: libraries
 
 # The static libraries, proved and built.
 libraries:
-	@mkdir -p target
-	@{ rt staticlib boundary && rt staticlib jagwelu; } >target/libraries.log 2>&1 || { cat target/libraries.log; exit 1; }
+	@scripts/archive boundary && scripts/archive jagwelu

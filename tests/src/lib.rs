@@ -6,7 +6,8 @@
 //! `tally` counts what they reach. The libraries under test (feature
 //! `linked`) are `subject`, its readers and writers alone, and `firmware`,
 //! all that firmware calls, which `lists` runs beside the plain machine and
-//! `both` beside `fixed`, with `timing`.
+//! `both` beside `fixed`, with `timing`. `script` has calls and answers as the
+//! text that the program `replay` reads and prints.
 
 #[cfg(feature = "linked")]
 pub mod both;
@@ -19,6 +20,7 @@ pub mod lent;
 #[cfg(feature = "linked")]
 pub mod lists;
 pub mod reference;
+pub mod script;
 #[cfg(feature = "linked")]
 pub mod subject;
 pub mod tally;
