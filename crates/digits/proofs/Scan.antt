@@ -1,12 +1,12 @@
 -- Laws of a loop that goes through a list by an index: what the rest from i on is, at i + 1 and at the end.
-use Prim.Native.Nat.{ℕ, zero, suc, _+_, _≤_, _<_, _-_, _*_, _^_}
+use Prim.Native.Nat.{ℕ, zero, suc, _+_, _≤_, _<_, _-_, _*_, _^_, max}
 use mathlib.Core.Path.{_≡_, refl, sym, ap}
 use mathlib.Core.Bool.{Bool, true, false, _&&_, and-assoc, and-true}
 use mathlib.Core.List.{List, [], _∷_}
 use native.Mathlib.Nat.{pow-suc, pow-le-pow-right, lt-of-lt-of-le}
 use native.Mathlib.Numerals.{add-one}
 use native.Mathlib.Omega.{arith}
-use borrow.Author.Tests.{le-leb, lt-leb}
+use borrow.Author.Tests.{le-leb, lt-leb, leb-true, leb-false}
 use lib.Dec.{leb, eqb, lit<}
 use lib.ListN.{length, getD, drop, take, drop-of-length-le, length-drop}
 use lib.Seq.{drop-cons, take-all}
@@ -21,6 +21,15 @@ at-next s i h = rw add-one (drop-cons s i 0 h)
 pub part-rest : (s : List ℕ) (a : ℕ) → take (length s - a) (drop a s) ≡ drop a s
 part-rest s a = take-all (length s - a) (drop a s) (simp length-drop (omega arith))
 
+-- the greater of two numbers is at most m where both are
+pub max-at-most : (a b m : ℕ) → leb (max a b) m ≡ (leb a m && leb b m)
+max-at-most a b m = go (leb a m) refl (leb b m) refl
+  where
+    go : (s : Bool) → leb a m ≡ s → (t : Bool) → leb b m ≡ t → leb (max a b) m ≡ (s && t)
+    go true e true f = let h = leb-true a m e in let k = leb-true b m f in le-leb (max a b) m (omega arith)
+    go true e false f = let k = leb-false b m f in lt-leb (max a b) m (omega arith)
+    go false e t f = let h = leb-false a m e in lt-leb (max a b) m (omega arith)
+
 -- ---- a test of each byte, for any test: the flag b says that the bytes below i passed
 module _ (test : ℕ → Bool) (all : List ℕ → Bool) (none : all [] ≡ true) (more : (x : ℕ) (xs : List ℕ) → all (x ∷ xs) ≡ (test x && all xs)) where
   pub all-step : (s : List ℕ) (i : ℕ) (b : Bool) → i < length s → (b && all (drop i s)) ≡ ((b && test (getD s i 0)) && all (drop (i + 1) s))
@@ -30,15 +39,22 @@ module _ (test : ℕ → Bool) (all : List ℕ → Bool) (none : all [] ≡ true
   pub all-end : (s : List ℕ) (i : ℕ) (b : Bool) → length s ≤ i → (b && all (drop i s)) ≡ b
   all-end s i b h = rw (drop-of-length-le s h, none) (and-true b)
 
+  -- the same by the worst value v of the bytes below i, which is at most m where all passed
+  module _ (value : ℕ → ℕ) (m : ℕ) where
+    pub worst-step : (s : List ℕ) (i v : ℕ) → i < length s → test (getD s i 0) ≡ leb (value (getD s i 0)) m
+        → (leb v m && all (drop i s)) ≡ (leb (max v (value (getD s i 0))) m && all (drop (i + 1) s))
+    worst-step s i v h e = rw (max-at-most v (value (getD s i 0)) m, sym e) (all-step s i (leb v m) h)
+
+module _ (s : List ℕ) (i v m : ℕ) where
+  pub at-most-step : i < length s → (leb v m && allAtMost m (drop i s)) ≡ (leb (max v (getD s i 0)) m && allAtMost m (drop (i + 1) s))
+  unfolding allAtMost
+  at-most-step h = worst-step (λ x. leb x m) (allAtMost m) refl (λ x xs. refl) (λ x. x) m s i v h refl
+
+  pub at-most-end : length s ≤ i → (leb v m && allAtMost m (drop i s)) ≡ leb v m
+  unfolding allAtMost
+  at-most-end = all-end (λ x. leb x m) (allAtMost m) refl (λ x xs. refl) s i (leb v m)
+
 module _ (s : List ℕ) (i : ℕ) (b : Bool) where
-  pub at-most-step : (m : ℕ) → i < length s → (b && allAtMost m (drop i s)) ≡ ((b && leb (getD s i 0) m) && allAtMost m (drop (i + 1) s))
-  unfolding allAtMost
-  at-most-step m = all-step (λ x. leb x m) (allAtMost m) refl (λ x xs. refl) s i b
-
-  pub at-most-end : (m : ℕ) → length s ≤ i → (b && allAtMost m (drop i s)) ≡ b
-  unfolding allAtMost
-  at-most-end m = all-end (λ x. leb x m) (allAtMost m) refl (λ x xs. refl) s i b
-
   pub ascii-step : i < length s
       → (b && allAscii (drop i s)) ≡ ((b && (leb 48 (getD s i 0) && leb (getD s i 0) 57)) && allAscii (drop (i + 1) s))
   unfolding allAscii

@@ -1,6 +1,6 @@
-// Bytes as digits: whether they are some, the number that they stand for, sums and comparisons. Scans keep a flag and do not leave early.
+// Bytes as digits: whether they are some, the number that they stand for, sums and comparisons. Scans keep a flag or the greatest byte, and do not leave early.
 ghost use mathlib.Core.Path.{_≡_};
-ghost use Prim.Native.Nat.{_≤_};
+ghost use Prim.Native.Nat.{_≤_, max};
 ghost use lib.ListN.{length};
 ghost use Rattle.rules.specs.Digits.{allAtMost, allAscii, sameBytes};
 ghost use Rattle.rules.specs.File.{sum};
@@ -12,17 +12,24 @@ pub enum Decimal {
     Broken,
 }
 
-// Whether every byte of `s` is at most `most`.
+// The greater of two bytes.
+pub fn greater(a: u8, b: u8) -> u8
+    ensures { λ r. ⌜ r ≡ max a b ⌝ }
+{
+    if a <= b { b } else { a }
+}
+
+// Whether every byte of `s` is at most `most`: the greatest is, which takes one vector operation for 16 bytes.
 pub fn all_at_most(s: &[u8], most: u8) -> bool
     ensures { λ r. ⌜ r ≡ allAtMost most (now (s .entry)) ⌝ }
 {
-    let mut all = true;
+    let mut worst: u8 = 0;
     let mut i = 0;
     while i < s.len() {
-        all = all & (s[i] <= most);
+        worst = greater(worst, s[i]);
         i += 1;
     }
-    all
+    worst <= most
 }
 
 // Whether every byte of `s` is an ASCII digit.
