@@ -1,16 +1,17 @@
 -- Laws of a sound store: a scan of bytes, a block, and the blocks one after the other.
 -- Assumes nothing.
-use Prim.Native.Nat.{ℕ, _+_, _-_, _≤_, _<_}
-use mathlib.Core.Path.{_≡_, _∙_, refl, ap}
+use Prim.Native.Nat.{ℕ, _+_, _-_, _%_, _≤_, _<_, max}
+use mathlib.Core.Path.{_≡_, _∙_, refl, sym, ap}
 use mathlib.Core.Bool.{Bool, true, false, cond, _&&_, _||_}
 use mathlib.Core.List.{List, _∷_}
 use native.Mathlib.Numerals.{add-one}
 use native.Mathlib.Omega.{arith}
+use lib.Dec.{leb, eqb}
 use lib.ListN.{length, getD, take, drop, length-take, length-drop}
-use borrow.Author.Tests.{eq-eqb, ne-eqb}
+use borrow.Author.Tests.{eq-eqb, ne-eqb, le-leb, lt-leb, leb-true, leb-false, eqb-true, eqb-false}
 use Rattle.rules.specs.Calendar.{slotsOfMonth}
-use Rattle.rules.specs.Store.{storeLength, all, blockOf, soundBlock, soundStore}
-use Rattle.digits.proofs.Scan.{all-step, all-end, part-rest}
+use Rattle.rules.specs.Store.{storeLength, noRate, all, blockOf, soundBlock, soundStore}
+use Rattle.digits.proofs.Scan.{all-step, all-end, worst-step, part-rest}
 use Rattle.pool.specs.Blocks.{isFree, monthOf}
 use Rattle.pool.specs.Held.{heldBelow}
 use Rattle.pool.specs.declared.Pool.{Pool}
@@ -27,6 +28,25 @@ module _ (test : ℕ → Bool) (s : List ℕ) (i : ℕ) (good : Bool) where
   pub scan-end : length s ≤ i → (good && all test (drop i s)) ≡ good
   unfolding all
   scan-end = all-end test (all test) refl (λ x xs. refl) s i good
+
+-- a byte is a rate or 255 where its rank is that of a rate
+rank-rate : (x : ℕ) → x < 256 → rateByte x ≡ leb ((x + 1) % 256) 101
+rank-rate x h = go (leb x 100) refl (eqb x noRate) refl
+  where
+    go : (s : Bool) → leb x 100 ≡ s → (t : Bool) → eqb x noRate ≡ t → (s || t) ≡ leb ((x + 1) % 256) 101
+    go true e t f = let k = leb-true x 100 e in sym (le-leb ((x + 1) % 256) 101 (omega arith))
+    go false e true f = let k = eqb-true x noRate f in sym (le-leb ((x + 1) % 256) 101 (omega arith))
+    go false e false f =
+        let k = leb-false x 100 e in
+        let d : x ≡ 255 → ⊥ = eqb-false x noRate f in
+        sym (lt-leb ((x + 1) % 256) 101 (omega arith))
+
+-- the scan by the greatest rank
+pub rates-step : (s : List ℕ) (i worst : ℕ) → i < length s → getD s i 0 < 256
+    → (leb worst 101 && all rateByte (drop i s)) ≡ (leb (max worst ((getD s i 0 + 1) % 256)) 101 && all rateByte (drop (i + 1) s))
+unfolding all
+rates-step s i worst h b =
+    worst-step rateByte (all rateByte) refl (λ x xs. refl) (λ x. (x + 1) % 256) 101 s i worst h (rank-rate (getD s i 0) b)
 
 -- ---- a block
 
