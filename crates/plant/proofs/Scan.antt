@@ -1,15 +1,18 @@
 -- Laws of the plant's loops: what the part from i on gives, at i + 1 and at the end.
 -- Assumes nothing.
 use Prim.Native.Nat.{ℕ, zero, suc, _+_, _*_, _%_, _≤_, _<_}
-use mathlib.Core.Path.{_≡_, refl, sym}
-use mathlib.Core.Bool.{Bool, true, _&&_, and-true, and-assoc}
+use mathlib.Core.Path.{_≡_, _∙_, refl, sym, ap}
+use mathlib.Core.Logic.{_⊎_, inl, inr}
+use mathlib.Core.Bool.{Bool, true, false, _&&_, and-true, and-assoc, false≢true}
 use mathlib.Core.List.{List, [], _∷_}
 use native.Mathlib.Numerals.{add-one}
 use native.Mathlib.Omega.{arith}
-use native.Mathlib.Nat.{mul-le-mul-left, le-trans}
-use lib.Dec.{leb, lit≤}
+use native.Mathlib.Nat.{mul-le-mul-left, le-trans, le-of-suc-le-suc, eq-or-lt-of-le}
+use borrow.Author.Tests.{eqb-true}
+use lib.Dec.{leb, eqb, lit≤}
 use lib.ListN.{length, getD, drop, take, set, drop-of-length-le}
 use lib.Seq.{drop-cons, take-suc, take-suc-set, take-all}
+use Rattle.rules.specs.Store.{allBelow}
 use Rattle.rules.specs.Plant.{weights, weightedSum, allHex, hexByte}
 use Rattle.digits.proofs.Scan.{at-next, all-step, all-end}
 
@@ -30,6 +33,30 @@ weighted-step s i h = rw (at-next s i h, add-one i) refl
 pub weighted-end : (s : List ℕ) (i : ℕ) → length s ≤ i → weightedSum i (drop i s) ≡ 0
 unfolding weightedSum
 weighted-end s i h = rw drop-of-length-le refl
+
+-- each number below n passes
+all-at : (n : ℕ) (test : ℕ → Bool) → allBelow n test ≡ true → (k : ℕ) → k < n → test k ≡ true
+unfolding allBelow
+all-at zero test e k l = absurd (omega arith)
+all-at (suc n) test e k l = go (λ r h. all-at n test r k h) (test n) refl e (eq-or-lt-of-le (le-of-suc-le-suc l))
+  where
+    go : (allBelow n test ≡ true → k < n → test k ≡ true)
+        → (b : Bool) → test n ≡ b → (b && allBelow n test) ≡ true → (k ≡ n) ⊎ (k < n) → test k ≡ true
+    go before true f r (inl s) = ap test s ∙ f
+    go before true f r (inr h) = before r h
+    go before false f r s = absurd (false≢true r)
+
+-- the code's table has the weights of the 25 places: one computed test of it
+abbrev pub weightTable : List ℕ
+weightTable =
+    1 ∷ 3 ∷ 5 ∷ 7 ∷ 9 ∷ 1 ∷ 3 ∷ 5 ∷ 7 ∷ 9 ∷ 1 ∷ 3 ∷ 5 ∷ 7 ∷ 9 ∷ 1 ∷ 3 ∷ 5 ∷ 7 ∷ 9 ∷ 1 ∷ 3 ∷ 5 ∷ 7 ∷ 9 ∷ []
+
+right : ℕ → Bool
+right k = eqb (getD weightTable k 0) (getD weights (k % 5) 0)
+
+pub weight-is : (k : ℕ) → k < 25 → getD weightTable k 0 ≡ getD weights (k % 5) 0
+unfolding allBelow right
+weight-is k l = eqb-true (getD weightTable k 0) (getD weights (k % 5) 0) (all-at 25 right refl k l)
 
 pub weight-bound : (k : ℕ) → getD weights k 0 ≤ 9
 weight-bound zero = lit≤ tt

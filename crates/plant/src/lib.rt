@@ -13,8 +13,9 @@ const ID_LENGTH: usize = 26;
 // The check digit is the last one; those before it have weights.
 const CHECK_PLACE: usize = ID_LENGTH - 1;
 
-// 'Weights 1, 3, 5, 7, 9 repeating'.
-const WEIGHTS: [u8; 5] = [1, 3, 5, 7, 9];
+// 'Weights 1, 3, 5, 7, 9 repeating', one for each digit, so that the weighted sum vectorises.
+const WEIGHTS: [u8; CHECK_PLACE] =
+    *b"\x01\x03\x05\x07\x09\x01\x03\x05\x07\x09\x01\x03\x05\x07\x09\x01\x03\x05\x07\x09\x01\x03\x05\x07\x09";
 
 // 'A MAC address of 12 ASCII bytes'.
 const MAC_LENGTH: usize = 12;
@@ -47,14 +48,14 @@ pub struct Installed {
 }
 
 // The digits times their weights, summed.
-fn weighted_sum(s: &[u8]) -> u32
+fn weighted_sum(s: &[u8]) -> u16
     requires { ⌜ length (now s) ≤ 25 ⌝ }
     ensures { λ r. ⌜ r ≡ weightedSum 0 (now (s .entry)) ⌝ }
 {
-    let mut sum: u32 = 0;
+    let mut sum: u16 = 0;
     let mut i = 0;
     while i < s.len() {
-        sum += (s[i] as u32) * (WEIGHTS[i % 5] as u32);
+        sum += (s[i] as u16) * (WEIGHTS[i] as u16);
         i += 1;
     }
     sum
@@ -67,7 +68,7 @@ pub fn is_plant_id(id: &[u8]) -> bool
     if id.len() != ID_LENGTH {
         return false;
     }
-    digits::all_at_most(id, 9) & (id[CHECK_PLACE] as u32 == weighted_sum(&id[..CHECK_PLACE]) % 10)
+    digits::all_at_most(id, 9) & (id[CHECK_PLACE] as u16 == weighted_sum(&id[..CHECK_PLACE]) % 10)
 }
 
 // Whether a byte is 0-9 or A-F in ASCII.

@@ -7,7 +7,7 @@ use borrow.Author.Needs.{needs}
 use lib.ListN.{length, drop}
 use denote.Ref.{now}
 use Rattle.rules.specs.Plant.{weightedSum}
-use Rattle.plant.proofs.Scan.{weighted-step, weighted-end, weight-bound, weighted-bound}
+use Rattle.plant.proofs.Scan.{weighted-step, weighted-end, weight-is, weight-bound, weighted-bound}
 use Rattle.plant.proofs.weighted_sum.Statement.{statement}
 use Rattle.plant.proofs.weighted_sum.Tie as tie
 
@@ -30,17 +30,19 @@ array-read-sum : tie.Need-array-read-sum Inv-loop μ-loop
 array-read-sum c = search needs
 
 cast-sum-2 : tie.Need-cast-sum-2 Inv-loop μ-loop
-cast-sum-2 c = omega (arith, weight-bound (c .before .before .loop .i % 5))
+cast-sum-2 c =
+    let i = c .before .before .loop .i in
+    rw (weight-is i (omega arith)) (omega (arith, weight-bound (i % 5)))
 
 mul-sum : tie.Need-mul-sum Inv-loop μ-loop
 mul-sum c =
     let i = c .before .before .loop .i in
-    omega (arith, weighted-bound _ (i % 5) (c .shared-slice-known .given i .fits))
+    rw (weight-is i (omega arith)) (omega (arith, weighted-bound _ (i % 5) (c .shared-slice-known .given i .fits)))
 
 add-sum : tie.Need-add-sum Inv-loop μ-loop
 add-sum c =
     let i = c .before .before .loop .i in
-    omega (arith, weighted-bound _ (i % 5) (c .shared-slice-known .given i .fits))
+    rw (weight-is i (omega arith)) (omega (arith, weighted-bound _ (i % 5) (c .shared-slice-known .given i .fits)))
 
 add-i : tie.Need-add-i Inv-loop μ-loop
 add-i c = omega arith
@@ -53,7 +55,7 @@ loop-again c =
     let i = c .before .before .loop .i in
     let b = weighted-bound _ (i % 5) (c .shared-slice-known .given i .fits) in
     let h = weighted-step (now (c .before .before .before .args .s)) i (c .before .loop-test .taken) in
-    (omega arith, omega arith, omega arith, omega arith)
+    rw (weight-is i (omega arith)) (omega arith, omega arith, omega arith, omega arith)
 
 returns : tie.Need-returns Inv-loop μ-loop
 returns c = let h = weighted-end (now (c .before .before .args .s)) (c .before .loop .i) (c .loop-test .left) in omega arith
