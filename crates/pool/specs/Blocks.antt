@@ -50,15 +50,10 @@ freeAfter p floor b = isFree p b || ltb (monthOf p b) floor
 unfoldable pub releaseOf : Pool → ℕ → Pool
 releaseOf p floor = record { months = p .months; free = number 16 (freeAfter p floor) }
 
--- the answer is block b
-abbrev pub isAt : Found → ℕ → Bool
-isAt (At c) b = eqb c b
-isAt Nothing b = false
-
--- block b is free, or its month is between floor and 1199, and b is the block that is found for it
+-- block b is free, or its month is between floor and 1199, and no other block holds it
 unfoldable pub blockSound : Pool → ℕ → ℕ → Bool
 blockSound p floor b =
-    isFree p b || leb floor (monthOf p b) && leb (monthOf p b) 1199 && isAt (findOf p (monthOf p b)) b
+    isFree p b || leb floor (monthOf p b) && leb (monthOf p b) 1199 && leb (countBelow 16 (holds p (monthOf p b))) 1
 
 -- the used blocks' months are between floor and 1199, and no two are the same
 unfoldable pub soundOf : Pool → ℕ → Bool

@@ -1,8 +1,8 @@
 ghost use mathlib.Core.Path.{_≡_};
 ghost use Prim.Native.Nat.{ℕ, _<_, _+_, _*_, _^_};
-ghost use Rattle.pool.specs.Below.{tick};
+ghost use Rattle.pool.specs.Below.{tick, countBelow};
 ghost use Rattle.pool.specs.Held.{soundPool};
-ghost use Rattle.pool.specs.Blocks.{holds, freeCount, findOf, takeOf, holdOf, freeAfter, releaseOf, isAt, blockSound};
+ghost use Rattle.pool.specs.Blocks.{holds, freeCount, findOf, takeOf, holdOf, freeAfter, releaseOf, blockSound};
 
 // Sixteen blocks: bit b of free is set where block b is free, and months[b] is the month of a used block b.
 pub struct Pool {
@@ -23,18 +23,6 @@ pub enum Place {
 pub struct Taken {
     pub pool: Pool,
     pub place: Place,
-}
-
-impl Found {
-    // Whether the answer is block b.
-    fn is_at(self, b: usize) -> bool
-        ensures { λ r. ⌜ r ≡ isAt self b ⌝ }
-    {
-        match self {
-            Found::At(at) => at == b,
-            Found::Nothing => false,
-        }
-    }
 }
 
 // A test as the binary digit b.
@@ -118,28 +106,40 @@ impl Pool {
         Pool { months, free }
     }
 
-    // Whether block b is free, or has a month between floor and 1199 that no lower block has.
+    // How many used blocks have the month. It looks at each, so that it vectorises.
+    fn holders(self, month: u16) -> u16
+        ensures { λ r. ⌜ r ≡ countBelow 16 (holds self month) ⌝ }
+    {
+        let mut count: u16 = 0;
+        let mut b: usize = 0;
+        while b < 16 {
+            count += self.holds_month(month, b) as u16;
+            b += 1;
+        }
+        count
+    }
+
+    // Whether block b is free, or has a month between floor and 1199 that no other block has.
     fn block_sound(self, floor: u16, b: usize) -> bool
         requires { ⌜ b < 16 ⌝ }
         ensures { λ r. ⌜ r ≡ blockSound self floor b ⌝ }
     {
         let months = self.months;
         let month = months[b];
-        ((self.free >> b) % 2 == 1) | (floor <= month) & (month <= 1199) & self.find(month).is_at(b)
+        let free = (self.free >> b) % 2 == 1;
+        free | (floor <= month) & (month <= 1199) & (self.holders(month) <= 1)
     }
 
     pub fn sound(self, floor: u16) -> bool
         ensures { λ r. ⌜ r ≡ soundPool self floor ⌝ }
     {
+        let mut good = true;
         let mut b: usize = 0;
         while b < 16 {
-            if self.block_sound(floor, b) {
-                b += 1;
-            } else {
-                return false;
-            }
+            good = self.block_sound(floor, b) & good;
+            b += 1;
         }
-        true
+        good
     }
 
     // The month's own block, or a free one.
