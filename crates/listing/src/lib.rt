@@ -36,7 +36,7 @@ fn put(mut line: Line, byte: u8) -> Line
 }
 
 // The line with a number more, in ASCII without zeros before it.
-fn number(line: Line, n: u32) -> Line
+fn number(line: Line, n: u64) -> Line
     requires { ⌜ line .length + length (numeral n) ≤ room ⌝ }
     ensures { λ r. ⌜ r ≡ puts line (numeral n) ⌝ }
 {
@@ -52,7 +52,18 @@ fn field(line: Line, n: u32, behind: u8) -> Line
     requires { ⌜ line .length + length (numeral n) < room ⌝ }
     ensures { λ r. ⌜ r ≡ puts line (numeral n ++ (behind ∷ [])) ⌝ }
 {
-    put(number(line, n), behind)
+    put(number(line, n as u64), behind)
+}
+
+// A number by itself, in ASCII without zeros before it.
+pub fn decimal(n: u64) -> Line
+    ensures { λ r. ⌜ r ≡ lineIn (numeral n) ⌝ }
+{
+    let start = Line {
+        bytes: [0; ROOM],
+        length: 0,
+    };
+    number(start, n)
 }
 
 // `ok`, format, records and total rates.
