@@ -1,0 +1,267 @@
+// A line's call: carried out on the unit and the store, and answered.
+ghost use Rattle.io.specs.Counts.{Counts};
+use crate::answers;
+use crate::shown;
+use rules::Answer;
+use script::Ask;
+use script::Field;
+use unit::Call;
+use unit::Unit;
+
+// 'a store of LENGTH bytes, at most 32768'.
+const LONGEST_STORE: usize = 32768;
+
+// Room for the longest store.
+pub fn longest_store() -> [u8; LONGEST_STORE] {
+    [0u8; LONGEST_STORE]
+}
+
+// The unit, whether one was installed, how many bytes of the store are lent, and the place in the output behind the last answer.
+pub struct Session {
+    pub unit: Unit,
+    pub installed: bool,
+    pub lent: usize,
+    pub at: usize,
+}
+
+impl Session {
+    // 'before `store` the store is empty'; the unit is one that is not sound, since no values were given.
+    pub fn new() -> Session {
+        let none = Unit::install(b"", b"", 0, 0, 0);
+        let unit = none.unit;
+        Session {
+            unit,
+            installed: false,
+            lent: 0,
+            at: 0,
+        }
+    }
+
+    // With this much in the output.
+    pub fn written(self, at: usize) -> Session {
+        let unit = self.unit;
+        Session {
+            unit,
+            installed: self.installed,
+            lent: self.lent,
+            at,
+        }
+    }
+
+    // A line goes out.
+    pub fn says(self, text: &[u8], out: &mut [u8]) -> Session {
+        let at = script::put_text(out, self.at, text);
+        self.written(script::put_text(out, at, b"\n"))
+    }
+
+    fn with_unit(self, unit: Unit) -> Session {
+        Session {
+            unit,
+            installed: true,
+            lent: self.lent,
+            at: self.at,
+        }
+    }
+
+    fn with_store(self, lent: usize) -> Session {
+        let unit = self.unit;
+        Session {
+            unit,
+            installed: self.installed,
+            lent,
+            at: self.at,
+        }
+    }
+}
+
+// So many bytes, or as many as there are.
+pub fn most_of(count: usize, s: &[u8]) -> usize
+    ensures { λ r. ⌜ Counts r (now (s .entry)) ⌝ }
+{
+    if count < s.len() { count } else { s.len() }
+}
+
+// A call of the plain machine, through the unit's step.
+fn step(
+    was: Session,
+    call: Call,
+    name: &[u8],
+    body: &[u8],
+    store: &mut [u8],
+    out: &mut [u8],
+) -> Session {
+    let unit = was.unit;
+    let lent = most_of(was.lent, store);
+    let stepped = unit.step(call, name, body, &mut store[..lent]);
+    let next = stepped.unit;
+    let reply = stepped.reply;
+    let session = was.with_unit(next);
+    session.written(answers::put_reply(reply, out, session.at))
+}
+
+// 'Before an accepted install everything else answers `no unit`.'
+fn plain_step(was: Session, call: Call, store: &mut [u8], out: &mut [u8]) -> Session {
+    if was.installed {
+        step(was, call, b"", b"", store, out)
+    } else {
+        was.says(b"no unit", out)
+    }
+}
+
+// 'A refused install keeps the unit there was; an accepted one keeps the store.'
+fn install(
+    was: Session,
+    id: &[u8],
+    mac: &[u8],
+    panel: u64,
+    inverter: u64,
+    minutes: u64,
+    out: &mut [u8],
+) -> Session {
+    let made = Unit::install(id, mac, panel, inverter, minutes);
+    let answer = made.answer;
+    let unit = made.unit;
+    let at = answers::put_answer(answer, out, was.at);
+    let session = was.written(at);
+    match answer {
+        Answer::Accepted => session.with_unit(unit),
+        Answer::Refused(_) => session,
+    }
+}
+
+fn install_line(
+    was: Session,
+    line: &[u8],
+    panel: u64,
+    inverter: u64,
+    minutes: u64,
+    out: &mut [u8],
+) -> Session {
+    let mut id = io::large_buffer();
+    let mut mac = io::large_buffer();
+    let Field::Length(long) = script::digits_of(script::word(line, 1), &mut id) else {
+        return was.says(b"unknown", out);
+    };
+    let Field::Length(wide) = script::bytes_of(script::word(line, 2), &mut mac) else {
+        return was.says(b"unknown", out);
+    };
+    let id_end = most_of(long, &id);
+    let mac_end = most_of(wide, &mac);
+    install(
+        was,
+        &id[..id_end],
+        &mac[..mac_end],
+        panel,
+        inverter,
+        minutes,
+        out,
+    )
+}
+
+fn take_line(was: Session, line: &[u8], store: &mut [u8], out: &mut [u8]) -> Session {
+    let mut name = io::large_buffer();
+    let mut body = io::large_buffer();
+    let Field::Length(long) = script::bytes_of(script::word(line, 1), &mut name) else {
+        return was.says(b"unknown", out);
+    };
+    let Field::Length(wide) = script::hex_of(script::word(line, 2), &mut body) else {
+        return was.says(b"unknown", out);
+    };
+    if was.installed {
+        let name_end = most_of(long, &name);
+        let body_end = most_of(wide, &body);
+        step(
+            was,
+            Call::File,
+            &name[..name_end],
+            &body[..body_end],
+            store,
+            out,
+        )
+    } else {
+        was.says(b"no unit", out)
+    }
+}
+
+fn request_line(was: Session, line: &[u8], out: &mut [u8]) -> Session {
+    let mut segment = io::large_buffer();
+    let Field::Length(long) = script::bytes_of(script::word(line, 1), &mut segment) else {
+        return was.says(b"unknown", out);
+    };
+    if was.installed {
+        let unit = was.unit;
+        let end = most_of(long, &segment);
+        was.written(answers::put_request(unit, &segment[..end], out, was.at))
+    } else {
+        was.says(b"no unit", out)
+    }
+}
+
+// Every byte this one.
+fn fill(store: &mut [u8], byte: u8) {
+    let mut i = 0;
+    while i < store.len() {
+        store[i] = byte;
+        i += 1;
+    }
+}
+
+// 'lends a store of LENGTH bytes, each BYTE'.
+fn lend(was: Session, length: usize, byte: u8, store: &mut [u8], out: &mut [u8]) -> Session {
+    fill(store, byte);
+    was.with_store(length).says(b"accepted", out)
+}
+
+// 'writes one byte of the lent store'; 'INDEX not below the length: `unknown`'.
+fn spoil(was: Session, index: u64, value: u8, store: &mut [u8], out: &mut [u8]) -> Session {
+    let lent = most_of(was.lent, store);
+    if lent as u64 <= index {
+        return was.says(b"unknown", out);
+    }
+    store[index as usize] = value;
+    was.says(b"accepted", out)
+}
+
+fn show_state(was: Session, out: &mut [u8]) -> Session {
+    if was.installed {
+        let unit = was.unit;
+        was.written(shown::put_state(unit, out, was.at))
+    } else {
+        was.says(b"no unit", out)
+    }
+}
+
+fn show_block(was: Session, month: u64, store: &[u8], out: &mut [u8]) -> Session {
+    if was.installed {
+        let unit = was.unit;
+        let pool = unit.pool;
+        let lent = most_of(was.lent, store);
+        was.written(shown::put_block(pool, month, &store[..lent], out, was.at))
+    } else {
+        was.says(b"no unit", out)
+    }
+}
+
+// The session after a line.
+pub fn answer(was: Session, line: &[u8], store: &mut [u8], out: &mut [u8]) -> Session {
+    match script::ask_of(line) {
+        Ask::Nothing => was,
+        Ask::Unknown => was.says(b"unknown", out),
+        Ask::Install(panel, inverter, minutes) => {
+            install_line(was, line, panel, inverter, minutes, out)
+        }
+        Ask::Store(length, byte) => lend(was, length, byte, store, out),
+        Ask::Byte(index, value) => spoil(was, index, value, store, out),
+        Ask::Tick(t) => plain_step(was, Call::Tick(t), store, out),
+        Ask::Lost => plain_step(was, Call::ClockLost, store, out),
+        Ask::Take => take_line(was, line, store, out),
+        Ask::Failure(kind, status) => plain_step(was, Call::Failure(kind, status), store, out),
+        Ask::Ceiling(slot) => plain_step(was, Call::Ceiling(slot), store, out),
+        Ask::Due => plain_step(was, Call::Due, store, out),
+        Ask::Command => plain_step(was, Call::Command, store, out),
+        Ask::Free => plain_step(was, Call::FreeBlocks, store, out),
+        Ask::Request => request_line(was, line, out),
+        Ask::State => show_state(was, out),
+        Ask::Block(month) => show_block(was, month, store, out),
+    }
+}

@@ -1,0 +1,161 @@
+// The input's lines: 'lines end in 0A (the last may lack it)'. A line is gathered from as many reads as it takes.
+ghost use mathlib.Core.Path.{_≡_};
+ghost use Prim.Native.Nat.{_+_, _≤_, min};
+ghost use lib.ListN.{length};
+use crate::calls::Session;
+use libc::STDOUT_FILENO;
+
+const NEW_LINE: u8 = 10;
+
+// 'A line up to 65,536 bytes without its 0A is read, a longer one answers `too long`.'
+const LONGEST_LINE: usize = 65536;
+
+// As much of the output as an answer can take: a block's 1,488 bytes in hex and 0A are the longest, 2,977 bytes.
+const LONGEST_ANSWER: usize = 4096;
+
+// What was read: how much of the present line stands in the line's buffer, whether it is longer than that, and whether more input can come.
+pub struct Reader {
+    pub session: Session,
+    pub length: usize,
+    pub over: bool,
+    pub open: bool,
+}
+
+impl Reader {
+    pub fn new() -> Reader {
+        Reader {
+            session: Session::new(),
+            length: 0,
+            over: false,
+            open: true,
+        }
+    }
+
+    // The input has ended.
+    pub fn ended(self) -> Reader {
+        let session = self.session;
+        Reader {
+            session,
+            length: self.length,
+            over: self.over,
+            open: false,
+        }
+    }
+
+    // With so much of a line.
+    fn with_line(self, length: usize, over: bool) -> Reader {
+        let session = self.session;
+        Reader {
+            session,
+            length,
+            over,
+            open: self.open,
+        }
+    }
+
+    // At the start of a line, after the last one was answered.
+    fn next_line(self, session: Session) -> Reader {
+        Reader {
+            session,
+            length: 0,
+            over: false,
+            open: self.open,
+        }
+    }
+
+    // With the answers written out.
+    pub fn flushed(self, out: &[u8]) -> Reader {
+        let session = self.session;
+        let end = crate::calls::most_of(session.at, out);
+        io::write_all(STDOUT_FILENO, &out[..end]);
+        self.with_answers(session.written(0))
+    }
+
+    fn with_answers(self, session: Session) -> Reader {
+        Reader {
+            session,
+            length: self.length,
+            over: self.over,
+            open: self.open,
+        }
+    }
+}
+
+// A part of a line behind what stands in the buffer already, as far as there is room.
+fn gather(was: Reader, part: &[u8], line: &mut [u8]) -> Reader {
+    let length = was.length;
+    let end = script::put_text(line, length, part);
+    if end == length {
+        return was.with_line(length, was.over | (0 < part.len()));
+    }
+    was.with_line(end, was.over)
+}
+
+// The line's answer.
+fn answer(was: Reader, line: &[u8], store: &mut [u8], out: &mut [u8]) -> Reader {
+    let session = was.session;
+    if was.over {
+        return was.next_line(session.says(b"too long", out));
+    }
+    let length = crate::calls::most_of(was.length, line);
+    was.next_line(crate::calls::answer(session, &line[..length], store, out))
+}
+
+// The same, after what was answered is written out where room gets short.
+fn answer_line(was: Reader, line: &[u8], store: &mut [u8], out: &mut [u8]) -> Reader {
+    let session = was.session;
+    let at = session.at;
+    if at <= out.len() {
+        if out.len() - at < LONGEST_ANSWER {
+            return answer(was.flushed(out), line, store, out);
+        }
+    }
+    answer(was, line, store, out)
+}
+
+// Where the next line begins: past the 0A, or at the end where there is none.
+fn behind(end: usize, length: usize) -> usize
+    requires { ⌜ end ≤ length ⌝ }
+    ensures { λ r. ⌜ r ≡ min (end + 1) length ⌝ }
+{
+    if end < length { end + 1 } else { end }
+}
+
+// A part of the input up to its first 0A, or all of it where it has none.
+fn take_part(
+    was: Reader,
+    part: &[u8],
+    end: usize,
+    line: &mut [u8],
+    store: &mut [u8],
+    out: &mut [u8],
+) -> Reader
+    requires { ⌜ end ≤ length (now part) ⌝ }
+{
+    let gathered = gather(was, &part[..end], line);
+    if end < part.len() {
+        return answer_line(gathered, line, store, out);
+    }
+    gathered
+}
+
+// A part of the input: each of its lines answered, and the start of the next line gathered.
+pub fn feed(was: Reader, part: &[u8], line: &mut [u8], store: &mut [u8], out: &mut [u8]) -> Reader {
+    let mut reader = was;
+    let mut rest = part;
+    while 0 < rest.len() {
+        let end = script::place(rest, NEW_LINE);
+        reader = take_part(reader, rest, end, line, store, out);
+        let start = behind(end, rest.len());
+        rest = &rest[start..];
+    }
+    reader
+}
+
+// The last line, where it lacks its 0A.
+pub fn last(was: Reader, line: &[u8], store: &mut [u8], out: &mut [u8]) -> Reader {
+    if (0 < was.length) | was.over {
+        return answer_line(was, line, store, out);
+    }
+    was
+}
