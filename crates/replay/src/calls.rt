@@ -2,9 +2,9 @@
 ghost use Rattle.io.specs.Counts.{Counts};
 use crate::answers;
 use crate::shown;
+use fields::Field;
 use rules::Answer;
 use script::Ask;
-use script::Field;
 use unit::Call;
 use unit::Unit;
 
@@ -50,8 +50,8 @@ impl Session {
 
     // A line goes out.
     pub fn says(self, text: &[u8], out: &mut [u8]) -> Session {
-        let at = script::put_text(out, self.at, text);
-        self.written(script::put_text(out, at, b"\n"))
+        let at = fields::put_text(out, self.at, text);
+        self.written(fields::put_text(out, at, b"\n"))
     }
 
     fn with_unit(self, unit: Unit) -> Session {
@@ -139,10 +139,10 @@ fn install_line(
 ) -> Session {
     let mut id = io::large_buffer();
     let mut mac = io::large_buffer();
-    let Field::Length(long) = script::digits_of(script::word(line, 1), &mut id) else {
+    let Field::Length(long) = fields::digits_of(words::word(line, 1), &mut id) else {
         return was.says(b"unknown", out);
     };
-    let Field::Length(wide) = script::bytes_of(script::word(line, 2), &mut mac) else {
+    let Field::Length(wide) = fields::bytes_of(words::word(line, 2), &mut mac) else {
         return was.says(b"unknown", out);
     };
     let id_end = most_of(long, &id);
@@ -161,10 +161,10 @@ fn install_line(
 fn take_line(was: Session, line: &[u8], store: &mut [u8], out: &mut [u8]) -> Session {
     let mut name = io::large_buffer();
     let mut body = io::large_buffer();
-    let Field::Length(long) = script::bytes_of(script::word(line, 1), &mut name) else {
+    let Field::Length(long) = fields::bytes_of(words::word(line, 1), &mut name) else {
         return was.says(b"unknown", out);
     };
-    let Field::Length(wide) = script::hex_of(script::word(line, 2), &mut body) else {
+    let Field::Length(wide) = fields::hex_of(words::word(line, 2), &mut body) else {
         return was.says(b"unknown", out);
     };
     if was.installed {
@@ -185,7 +185,7 @@ fn take_line(was: Session, line: &[u8], store: &mut [u8], out: &mut [u8]) -> Ses
 
 fn request_line(was: Session, line: &[u8], out: &mut [u8]) -> Session {
     let mut segment = io::large_buffer();
-    let Field::Length(long) = script::bytes_of(script::word(line, 1), &mut segment) else {
+    let Field::Length(long) = fields::bytes_of(words::word(line, 1), &mut segment) else {
         return was.says(b"unknown", out);
     };
     if was.installed {

@@ -84,7 +84,7 @@ impl Reader {
 // A part of a line behind what stands in the buffer already, as far as there is room.
 fn gather(was: Reader, part: &[u8], line: &mut [u8]) -> Reader {
     let length = was.length;
-    let end = script::put_text(line, length, part);
+    let end = fields::put_text(line, length, part);
     if end == length {
         return was.with_line(length, was.over | (0 < part.len()));
     }
@@ -144,7 +144,7 @@ pub fn feed(was: Reader, part: &[u8], line: &mut [u8], store: &mut [u8], out: &m
     let mut reader = was;
     let mut rest = part;
     while 0 < rest.len() {
-        let end = script::place(rest, NEW_LINE);
+        let end = words::place(rest, NEW_LINE);
         reader = take_part(reader, rest, end, line, store, out);
         let start = behind(end, rest.len());
         rest = &rest[start..];

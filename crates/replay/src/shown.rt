@@ -10,30 +10,30 @@ use unit::Unit;
 const MONTHS: u16 = 1200;
 
 fn put_clock(clock: Clock, out: &mut [u8], at: usize) -> usize {
-    let at = script::put_text(out, at, b"clock ");
+    let at = fields::put_text(out, at, b"clock ");
     match clock {
-        Clock::Unset => script::put_text(out, at, b"unset"),
-        Clock::At(t) => script::put_number(out, at, t as u64),
+        Clock::Unset => fields::put_text(out, at, b"unset"),
+        Clock::At(t) => fields::put_number(out, at, t as u64),
     }
 }
 
 fn put_value(word: &[u8], n: u64, out: &mut [u8], at: usize) -> usize {
-    let at = script::put_text(out, at, word);
-    script::put_number(out, at, n)
+    let at = fields::put_text(out, at, word);
+    fields::put_number(out, at, n)
 }
 
 fn put_flag(word: &[u8], flag: u8, out: &mut [u8], at: usize) -> usize {
-    let at = script::put_text(out, at, word);
+    let at = fields::put_text(out, at, word);
     if flag == NO_FLAG {
-        script::put_text(out, at, b"none")
+        fields::put_text(out, at, b"none")
     } else {
-        script::put_number(out, at, flag as u64)
+        fields::put_number(out, at, flag as u64)
     }
 }
 
 // A held month and its block.
 fn put_month(month: u16, block: usize, out: &mut [u8], at: usize) -> usize {
-    let at = script::put_number(out, at, month as u64);
+    let at = fields::put_number(out, at, month as u64);
     put_value(b":", block as u64, out, at)
 }
 
@@ -45,7 +45,7 @@ fn put_if_held(pool: Pool, month: u16, start: usize, out: &mut [u8], at: usize) 
     if at == start {
         return put_month(month, block, out, at);
     }
-    let next = script::put_text(out, at, b",");
+    let next = fields::put_text(out, at, b",");
     put_month(month, block, out, next)
 }
 
@@ -62,10 +62,10 @@ fn put_months(pool: Pool, out: &mut [u8], start: usize) -> usize {
 
 // 'held MONTH:BLOCK,..', months rising, and - where there is none.
 fn put_held(pool: Pool, out: &mut [u8], at: usize) -> usize {
-    let start = script::put_text(out, at, b" held ");
+    let start = fields::put_text(out, at, b" held ");
     let end = put_months(pool, out, start);
     if end == start {
-        return script::put_text(out, start, b"-");
+        return fields::put_text(out, start, b"-");
     }
     end
 }
@@ -94,22 +94,22 @@ pub fn put_state(unit: Unit, out: &mut [u8], at: usize) -> usize {
     let at = put_times(unit, out, at);
     let at = put_value(b" command ", unit.command as u64, out, at);
     let at = put_held(pool, out, at);
-    script::put_text(out, at, b"\n")
+    fields::put_text(out, at, b"\n")
 }
 
 // The line of `block`: 'the 1488 bytes of that month's block in hex | none', and 'none where the store lacks the length'.
 pub fn put_block(pool: Pool, month: u64, store: &[u8], out: &mut [u8], at: usize) -> usize {
     if store.len() != Unit::STORE_LENGTH {
-        return script::put_text(out, at, b"none\n");
+        return fields::put_text(out, at, b"none\n");
     }
     if MONTHS as u64 <= month {
-        return script::put_text(out, at, b"none\n");
+        return fields::put_text(out, at, b"none\n");
     }
     let Found::At(block) = pool.find(month as u16) else {
-        return script::put_text(out, at, b"none\n");
+        return fields::put_text(out, at, b"none\n");
     };
     let start = block * Unit::BLOCK_LENGTH;
     let end = start + Unit::BLOCK_LENGTH;
-    let at = script::put_hex(out, at, &store[start..end]);
-    script::put_text(out, at, b"\n")
+    let at = fields::put_hex(out, at, &store[start..end]);
+    fields::put_text(out, at, b"\n")
 }

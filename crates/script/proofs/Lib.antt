@@ -1,8 +1,2 @@
 -- The laws of this crate; beside them stands a folder for each function that has a proof.
-pub mod RangeLaws
-pub mod WordLaws
-pub mod NumberLaws
-pub mod HexLaws
-pub mod PutLaws
-pub mod FieldLaws
 pub mod AskLaws

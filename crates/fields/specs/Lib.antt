@@ -1,0 +1,4 @@
+-- The definitions of this crate.
+pub mod Hex
+pub mod Field
+pub mod Put

@@ -1,0 +1,3 @@
+-- The laws of this crate; beside them stands a folder for each function that has a proof.
+pub mod WordLaws
+pub mod NumberLaws
