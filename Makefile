@@ -1,9 +1,13 @@
-# The two commands of the README, and what stands beside them.
-.PHONY: demo test bench lists fuzz sizes libraries
+# The commands of the README, and what stands beside them.
+.PHONY: demo list test bench lists fuzz sizes libraries
 
-# The lister on example 10 of document 01.
+# A turn of the fiscal year, replayed: each call with its answer.
 demo:
 	@scripts/demo
+
+# The lister on example 10 of document 01.
+list:
+	@scripts/list
 
 # Proves every crate and runs every test; ends in `N passed, 0 failed`.
 test:

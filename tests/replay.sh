@@ -1,0 +1,57 @@
+#!/usr/bin/env bash
+# Runs the built program `replay` on lists of calls, and compares its answers with those that document 01 has.
+set -u
+cd "$(dirname "$0")/.." || exit 1
+replay=target/bin/replay
+if [ ! -x "$replay" ]; then
+    echo "error: $replay is missing: \`rt check\` builds it"
+    echo '0 passed, 1 failed'
+    exit 1
+fi
+folder=$(mktemp -d) || exit 1
+trap 'rm -rf "$folder"' EXIT
+if ! python3 tests/replay_inputs.py "$folder" || ! python3 scripts/story "$folder/story.written"; then
+    echo 'error: the inputs were not written'
+    echo '0 passed, 1 failed'
+    exit 1
+fi
+passed=0
+failed=0
+
+# same CASE STATUS: whether the program ended well and wrote the case's answers, byte for byte, and nothing else.
+same() {
+    if [ "$2" -eq 0 ] && cmp -s "$folder/wrote" "$folder/$1.answers" && [ ! -s "$folder/said" ]; then
+        passed=$((passed + 1))
+    else
+        printf 'FAILED %s (status %d) %s\n' "$1" "$2" "$(head -c 200 "$folder/said")"
+        diff "$folder/wrote" "$folder/$1.answers" | head -n 4 | cut -c 1-300
+        failed=$((failed + 1))
+    fi
+}
+
+for input in "$folder"/*.input; do
+    case=$(basename "$input" .input)
+    "$replay" <"$input" >"$folder/wrote" 2>"$folder/said"
+    same "$case" "$?"
+done
+
+# from a pipe the input comes in parts, some of them short, and ends anywhere in a line
+for case in listed story longest-line line-too-long long-lines-in-a-row; do
+    { head -c 40; sleep 0.1; head -c 70001; sleep 0.1; cat; } <"$folder/$case.input" | "$replay" >"$folder/wrote" 2>"$folder/said"
+    same "$case" "${PIPESTATUS[1]}"
+done
+
+# an answer comes before the next line is given
+answer=$(coproc R { "$replay"; }; printf 'due\n' >&"${R[1]}"; IFS= read -r -t 5 line <&"${R[0]}"; printf '%s' "$line"; eval "exec ${R[1]}>&-"; wait)
+if [ "$answer" = 'no unit' ]; then passed=$((passed + 1)); else echo "FAILED: the answer came late: \`$answer\`"; failed=$((failed + 1)); fi
+
+# the story is the one that scripts/story writes
+if cmp -s "$folder/story.written" story/fiscal_year.txt; then
+    passed=$((passed + 1))
+else
+    echo 'FAILED: story/fiscal_year.txt is not what scripts/story writes'
+    failed=$((failed + 1))
+fi
+
+printf '%d passed, %d failed\n' "$passed" "$failed"
+[ "$failed" -eq 0 ] && [ "$passed" -gt 0 ]
