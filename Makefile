@@ -1,13 +1,13 @@
 # The commands of the README, and what stands beside them.
-.PHONY: demo list test bench lists fuzz sizes libraries
+.PHONY: demo lister test bench lists fuzz sizes libraries
 
 # A turn of the fiscal year, replayed: each call with its answer.
 demo:
 	@scripts/demo
 
 # The lister on example 10 of document 01.
-list:
-	@scripts/list
+lister:
+	@scripts/lister
 
 # Proves every crate and runs every test; ends in `N passed, 0 failed`.
 test:

@@ -25,7 +25,7 @@ fn put_number(word: &[u8], n: u64, out: &mut [u8], at: usize) -> usize {
 }
 
 fn put_refusal(cause: Cause, out: &mut [u8], at: usize) -> usize {
-    put_number(b"refused ", listing::cause_number(cause) as u64, out, at)
+    put_number(b"refused ", numbers::cause_number(cause) as u64, out, at)
 }
 
 pub fn put_answer(answer: Answer, out: &mut [u8], at: usize) -> usize {
