@@ -1,85 +1,14 @@
 // A line's call: carried out on the unit and the store, and answered.
-ghost use Rattle.io.specs.Counts.{Counts};
 use crate::answers;
+use crate::session::Session;
 use crate::shown;
+use crate::stores;
+use crate::stores::most_of;
 use fields::Field;
 use rules::Answer;
 use script::Ask;
 use unit::Call;
 use unit::Unit;
-
-// 'a store of LENGTH bytes, at most 32768'.
-const LONGEST_STORE: usize = 32768;
-
-// Room for the longest store.
-pub fn longest_store() -> [u8; LONGEST_STORE] {
-    [0u8; LONGEST_STORE]
-}
-
-// The unit, whether one was installed, how many bytes of the store are lent, and the place in the output behind the last answer.
-pub struct Session {
-    pub unit: Unit,
-    pub installed: bool,
-    pub lent: usize,
-    pub at: usize,
-}
-
-impl Session {
-    // 'before `store` the store is empty'; the unit is one that is not sound, since no values were given.
-    pub fn new() -> Session {
-        let none = Unit::install(b"", b"", 0, 0, 0);
-        let unit = none.unit;
-        Session {
-            unit,
-            installed: false,
-            lent: 0,
-            at: 0,
-        }
-    }
-
-    // With this much in the output.
-    pub fn written(self, at: usize) -> Session {
-        let unit = self.unit;
-        Session {
-            unit,
-            installed: self.installed,
-            lent: self.lent,
-            at,
-        }
-    }
-
-    // A line goes out.
-    pub fn says(self, text: &[u8], out: &mut [u8]) -> Session {
-        let at = fields::put_text(out, self.at, text);
-        self.written(fields::put_text(out, at, b"\n"))
-    }
-
-    fn with_unit(self, unit: Unit) -> Session {
-        Session {
-            unit,
-            installed: true,
-            lent: self.lent,
-            at: self.at,
-        }
-    }
-
-    fn with_store(self, lent: usize) -> Session {
-        let unit = self.unit;
-        Session {
-            unit,
-            installed: self.installed,
-            lent,
-            at: self.at,
-        }
-    }
-}
-
-// So many bytes, or as many as there are.
-pub fn most_of(count: usize, s: &[u8]) -> usize
-    ensures { λ r. ⌜ Counts r (now (s .entry)) ⌝ }
-{
-    if count < s.len() { count } else { s.len() }
-}
 
 // A call of the plain machine, through the unit's step.
 fn step(
@@ -197,31 +126,6 @@ fn request_line(was: Session, line: &[u8], out: &mut [u8]) -> Session {
     }
 }
 
-// Every byte this one.
-fn fill(store: &mut [u8], byte: u8) {
-    let mut i = 0;
-    while i < store.len() {
-        store[i] = byte;
-        i += 1;
-    }
-}
-
-// 'lends a store of LENGTH bytes, each BYTE'.
-fn lend(was: Session, length: usize, byte: u8, store: &mut [u8], out: &mut [u8]) -> Session {
-    fill(store, byte);
-    was.with_store(length).says(b"accepted", out)
-}
-
-// 'writes one byte of the lent store'; 'INDEX not below the length: `unknown`'.
-fn spoil(was: Session, index: u64, value: u8, store: &mut [u8], out: &mut [u8]) -> Session {
-    let lent = most_of(was.lent, store);
-    if lent as u64 <= index {
-        return was.says(b"unknown", out);
-    }
-    store[index as usize] = value;
-    was.says(b"accepted", out)
-}
-
 fn show_state(was: Session, out: &mut [u8]) -> Session {
     if was.installed {
         let unit = was.unit;
@@ -250,8 +154,8 @@ pub fn answer(was: Session, line: &[u8], store: &mut [u8], out: &mut [u8]) -> Se
         Ask::Install(panel, inverter, minutes) => {
             install_line(was, line, panel, inverter, minutes, out)
         }
-        Ask::Store(length, byte) => lend(was, length, byte, store, out),
-        Ask::Byte(index, value) => spoil(was, index, value, store, out),
+        Ask::Store(length, byte) => stores::lend(was, length, byte, store, out),
+        Ask::Byte(index, value) => stores::spoil(was, index, value, store, out),
         Ask::Tick(t) => plain_step(was, Call::Tick(t), store, out),
         Ask::Lost => plain_step(was, Call::ClockLost, store, out),
         Ask::Take => take_line(was, line, store, out),

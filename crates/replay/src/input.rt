@@ -2,7 +2,8 @@
 ghost use mathlib.Core.Path.{_≡_};
 ghost use Prim.Native.Nat.{_+_, _≤_, min};
 ghost use lib.ListN.{length};
-use crate::calls::Session;
+use crate::session::Session;
+use crate::stores::most_of;
 use libc::STDOUT_FILENO;
 
 const NEW_LINE: u8 = 10;
@@ -66,7 +67,7 @@ impl Reader {
     // With the answers written out.
     pub fn flushed(self, out: &[u8]) -> Reader {
         let session = self.session;
-        let end = crate::calls::most_of(session.at, out);
+        let end = most_of(session.at, out);
         io::write_all(STDOUT_FILENO, &out[..end]);
         self.with_answers(session.written(0))
     }
@@ -97,7 +98,7 @@ fn answer(was: Reader, line: &[u8], store: &mut [u8], out: &mut [u8]) -> Reader 
     if was.over {
         return was.next_line(session.says(b"too long", out));
     }
-    let length = crate::calls::most_of(was.length, line);
+    let length = most_of(was.length, line);
     was.next_line(crate::calls::answer(session, &line[..length], store, out))
 }
 

@@ -4,7 +4,9 @@ ghost use Prim.Native.Nat.{_<_};
 mod answers;
 mod calls;
 mod input;
+mod session;
 mod shown;
+mod stores;
 
 use input::Reader;
 use libc::STDIN_FILENO;
@@ -43,7 +45,7 @@ fn replay(line: &mut [u8], store: &mut [u8], out: &mut [u8]) {
 
 fn main() {
     let mut line = io::large_buffer();
-    let mut store = calls::longest_store();
+    let mut store = stores::longest_store();
     let mut out = io::large_buffer();
     replay(&mut line, &mut store, &mut out);
 }

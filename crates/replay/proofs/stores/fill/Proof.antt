@@ -1,11 +1,11 @@
--- `replay::calls::fill` is safe and ends. Assumes nothing.
+-- `replay::stores::fill` is safe and ends. Assumes nothing.
 use Prim.Native.Nat.{ℕ, _≤_, _-_}
 use mathlib.Core.Path.{_≡_}
 use native.Mathlib.Omega.{arith}
 use lib.ListN.{length}
 use borrow.Author.Needs.{needs}
-use Rattle.replay.proofs.calls.fill.Statement.{statement}
-use Rattle.replay.proofs.calls.fill.Tie as tie
+use Rattle.replay.proofs.stores.fill.Statement.{statement}
+use Rattle.replay.proofs.stores.fill.Tie as tie
 
 abbrev Inv-loop : tie.InvT-loop
 Inv-loop store₀ byte i₀ store i = length store ≡ length store₀

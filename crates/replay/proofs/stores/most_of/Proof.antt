@@ -1,12 +1,12 @@
--- `replay::calls::most_of` meets its contract. Assumes nothing.
+-- `replay::stores::most_of` meets its contract. Assumes nothing.
 use Prim.Native.Nat.{_≤_}
 use mathlib.Core.Path.{sym}
 use native.Mathlib.Omega.{arith}
 use lib.ListN.{length}
 use lib.Seq.{length-take-le}
 use denote.Ref.{now}
-use Rattle.replay.proofs.calls.most_of.Statement.{statement}
-use Rattle.replay.proofs.calls.most_of.Tie as tie
+use Rattle.replay.proofs.stores.most_of.Statement.{statement}
+use Rattle.replay.proofs.stores.most_of.Tie as tie
 
 returns : tie.Need-returns
 returns c =

@@ -1,0 +1,60 @@
+// What stays from one line to the next: the unit, the store's length, and how much of the output is written.
+use unit::Unit;
+
+// The unit, whether one was installed, how many bytes of the store are lent, and the place in the output behind the last answer.
+pub struct Session {
+    pub unit: Unit,
+    pub installed: bool,
+    pub lent: usize,
+    pub at: usize,
+}
+
+impl Session {
+    // 'before `store` the store is empty'; the unit is one that is not sound, since no values were given.
+    pub fn new() -> Session {
+        let none = Unit::install(b"", b"", 0, 0, 0);
+        let unit = none.unit;
+        Session {
+            unit,
+            installed: false,
+            lent: 0,
+            at: 0,
+        }
+    }
+
+    // With this much in the output.
+    pub fn written(self, at: usize) -> Session {
+        let unit = self.unit;
+        Session {
+            unit,
+            installed: self.installed,
+            lent: self.lent,
+            at,
+        }
+    }
+
+    // A line goes out.
+    pub fn says(self, text: &[u8], out: &mut [u8]) -> Session {
+        let at = fields::put_text(out, self.at, text);
+        self.written(fields::put_text(out, at, b"\n"))
+    }
+
+    pub fn with_unit(self, unit: Unit) -> Session {
+        Session {
+            unit,
+            installed: true,
+            lent: self.lent,
+            at: self.at,
+        }
+    }
+
+    pub fn with_store(self, lent: usize) -> Session {
+        let unit = self.unit;
+        Session {
+            unit,
+            installed: self.installed,
+            lent,
+            at: self.at,
+        }
+    }
+}
