@@ -28,7 +28,7 @@ fn put_refusal(cause: Cause, out: &mut [u8], at: usize) -> usize {
     put_number(b"refused ", numbers::cause_number(cause) as u64, out, at)
 }
 
-pub fn put_answer(answer: Answer, out: &mut [u8], at: usize) -> usize {
+pub(crate) fn put_answer(answer: Answer, out: &mut [u8], at: usize) -> usize {
     match answer {
         Answer::Accepted => put_line(b"accepted", out, at),
         Answer::Refused(cause) => put_refusal(cause, out, at),
@@ -70,7 +70,7 @@ fn put_free(free: FreeBlocks, out: &mut [u8], at: usize) -> usize {
     }
 }
 
-pub fn put_reply(reply: Reply, out: &mut [u8], at: usize) -> usize {
+pub(crate) fn put_reply(reply: Reply, out: &mut [u8], at: usize) -> usize {
     match reply {
         Reply::Done(answer) => put_answer(answer, out, at),
         Reply::Due(due) => put_due(due, out, at),
@@ -81,7 +81,7 @@ pub fn put_reply(reply: Reply, out: &mut [u8], at: usize) -> usize {
 }
 
 // 'the 84 bytes as text'.
-pub fn put_request(unit: Unit, segment: &[u8], out: &mut [u8], at: usize) -> usize {
+pub(crate) fn put_request(unit: Unit, segment: &[u8], out: &mut [u8], at: usize) -> usize {
     let mut bytes = [0u8; REQUEST_LENGTH];
     match unit.request(segment, &mut bytes) {
         Written::Length(_) => put_line(&bytes, out, at),

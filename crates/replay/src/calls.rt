@@ -147,7 +147,7 @@ fn show_block(was: Session, month: u64, store: &[u8], out: &mut [u8]) -> Session
 }
 
 // The session after a line.
-pub fn answer(was: Session, line: &[u8], store: &mut [u8], out: &mut [u8]) -> Session {
+pub(crate) fn answer(was: Session, line: &[u8], store: &mut [u8], out: &mut [u8]) -> Session {
     match script::ask_of(line) {
         Ask::Nothing => was,
         Ask::Unknown => was.says(b"unknown", out),

@@ -8,14 +8,11 @@ use libc::STDOUT_FILENO;
 
 const NEW_LINE: u8 = 10;
 
-// 'A line up to 65,536 bytes without its 0A is read, a longer one answers `too long`.'
-const LONGEST_LINE: usize = 65536;
-
 // As much of the output as an answer can take: a block's 1,488 bytes in hex and 0A are the longest, 2,977 bytes.
 const LONGEST_ANSWER: usize = 4096;
 
 // What was read: how much of the present line stands in the line's buffer, whether it is longer than that, and whether more input can come.
-pub struct Reader {
+pub(crate) struct Reader {
     pub session: Session,
     pub length: usize,
     pub over: bool,
@@ -23,7 +20,7 @@ pub struct Reader {
 }
 
 impl Reader {
-    pub fn new() -> Reader {
+    pub(crate) fn new() -> Reader {
         Reader {
             session: Session::new(),
             length: 0,
@@ -33,7 +30,7 @@ impl Reader {
     }
 
     // The input has ended.
-    pub fn ended(self) -> Reader {
+    pub(crate) fn ended(self) -> Reader {
         let session = self.session;
         Reader {
             session,
@@ -65,7 +62,7 @@ impl Reader {
     }
 
     // With the answers written out.
-    pub fn flushed(self, out: &[u8]) -> Reader {
+    pub(crate) fn flushed(self, out: &[u8]) -> Reader {
         let session = self.session;
         let end = most_of(session.at, out);
         io::write_all(STDOUT_FILENO, &out[..end]);
@@ -82,7 +79,8 @@ impl Reader {
     }
 }
 
-// A part of a line behind what stands in the buffer already, as far as there is room.
+// A part of a line behind what stands in the buffer already. 'A line up to 65,536 bytes without its 0A is read', as many as the buffer has; what
+// does not fit makes the line too long.
 fn gather(was: Reader, part: &[u8], line: &mut [u8]) -> Reader {
     let length = was.length;
     let end = fields::put_text(line, length, part);
@@ -105,11 +103,9 @@ fn answer(was: Reader, line: &[u8], store: &mut [u8], out: &mut [u8]) -> Reader 
 // The same, after what was answered is written out where room gets short.
 fn answer_line(was: Reader, line: &[u8], store: &mut [u8], out: &mut [u8]) -> Reader {
     let session = was.session;
-    let at = session.at;
-    if at <= out.len() {
-        if out.len() - at < LONGEST_ANSWER {
-            return answer(was.flushed(out), line, store, out);
-        }
+    let at = most_of(session.at, out);
+    if out.len() - at < LONGEST_ANSWER {
+        return answer(was.flushed(out), line, store, out);
     }
     answer(was, line, store, out)
 }
@@ -141,7 +137,13 @@ fn take_part(
 }
 
 // A part of the input: each of its lines answered, and the start of the next line gathered.
-pub fn feed(was: Reader, part: &[u8], line: &mut [u8], store: &mut [u8], out: &mut [u8]) -> Reader {
+pub(crate) fn feed(
+    was: Reader,
+    part: &[u8],
+    line: &mut [u8],
+    store: &mut [u8],
+    out: &mut [u8],
+) -> Reader {
     let mut reader = was;
     let mut rest = part;
     while 0 < rest.len() {
@@ -154,7 +156,7 @@ pub fn feed(was: Reader, part: &[u8], line: &mut [u8], store: &mut [u8], out: &m
 }
 
 // The last line, where it lacks its 0A.
-pub fn last(was: Reader, line: &[u8], store: &mut [u8], out: &mut [u8]) -> Reader {
+pub(crate) fn last(was: Reader, line: &[u8], store: &mut [u8], out: &mut [u8]) -> Reader {
     if (0 < was.length) | was.over {
         return answer_line(was, line, store, out);
     }

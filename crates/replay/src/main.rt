@@ -43,6 +43,7 @@ fn replay(line: &mut [u8], store: &mut [u8], out: &mut [u8]) {
     last.flushed(out);
 }
 
+// The buffers: 65,536 bytes for a line and for answers, and the longest store.
 fn main() {
     let mut line = io::large_buffer();
     let mut store = stores::longest_store();

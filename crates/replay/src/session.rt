@@ -2,7 +2,7 @@
 use unit::Unit;
 
 // The unit, whether one was installed, how many bytes of the store are lent, and the place in the output behind the last answer.
-pub struct Session {
+pub(crate) struct Session {
     pub unit: Unit,
     pub installed: bool,
     pub lent: usize,
@@ -11,7 +11,7 @@ pub struct Session {
 
 impl Session {
     // 'before `store` the store is empty'; the unit is one that is not sound, since no values were given.
-    pub fn new() -> Session {
+    pub(crate) fn new() -> Session {
         let none = Unit::install(b"", b"", 0, 0, 0);
         let unit = none.unit;
         Session {
@@ -23,7 +23,7 @@ impl Session {
     }
 
     // With this much in the output.
-    pub fn written(self, at: usize) -> Session {
+    pub(crate) fn written(self, at: usize) -> Session {
         let unit = self.unit;
         Session {
             unit,
@@ -34,12 +34,12 @@ impl Session {
     }
 
     // A line goes out.
-    pub fn says(self, text: &[u8], out: &mut [u8]) -> Session {
+    pub(crate) fn says(self, text: &[u8], out: &mut [u8]) -> Session {
         let at = fields::put_text(out, self.at, text);
         self.written(fields::put_text(out, at, b"\n"))
     }
 
-    pub fn with_unit(self, unit: Unit) -> Session {
+    pub(crate) fn with_unit(self, unit: Unit) -> Session {
         Session {
             unit,
             installed: true,
@@ -48,7 +48,7 @@ impl Session {
         }
     }
 
-    pub fn with_store(self, lent: usize) -> Session {
+    pub(crate) fn with_store(self, lent: usize) -> Session {
         let unit = self.unit;
         Session {
             unit,

@@ -89,7 +89,7 @@ fn put_times(unit: Unit, out: &mut [u8], at: usize) -> usize {
 }
 
 // The line of `state`.
-pub fn put_state(unit: Unit, out: &mut [u8], at: usize) -> usize {
+pub(crate) fn put_state(unit: Unit, out: &mut [u8], at: usize) -> usize {
     let pool = unit.pool;
     let at = put_times(unit, out, at);
     let at = put_value(b" command ", unit.command as u64, out, at);
@@ -98,7 +98,7 @@ pub fn put_state(unit: Unit, out: &mut [u8], at: usize) -> usize {
 }
 
 // The line of `block`: 'the 1488 bytes of that month's block in hex | none', and 'none where the store lacks the length'.
-pub fn put_block(pool: Pool, month: u64, store: &[u8], out: &mut [u8], at: usize) -> usize {
+pub(crate) fn put_block(pool: Pool, month: u64, store: &[u8], out: &mut [u8], at: usize) -> usize {
     if store.len() != Unit::STORE_LENGTH {
         return fields::put_text(out, at, b"none\n");
     }

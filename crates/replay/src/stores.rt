@@ -6,12 +6,12 @@ use crate::session::Session;
 const LONGEST_STORE: usize = 32768;
 
 // Room for the longest store.
-pub fn longest_store() -> [u8; LONGEST_STORE] {
+pub(crate) fn longest_store() -> [u8; LONGEST_STORE] {
     [0u8; LONGEST_STORE]
 }
 
 // So many bytes, or as many as there are.
-pub fn most_of(count: usize, s: &[u8]) -> usize
+pub(crate) fn most_of(count: usize, s: &[u8]) -> usize
     ensures { λ r. ⌜ Counts r (now (s .entry)) ⌝ }
 {
     if count < s.len() { count } else { s.len() }
@@ -27,13 +27,25 @@ fn fill(store: &mut [u8], byte: u8) {
 }
 
 // 'lends a store of LENGTH bytes, each BYTE'.
-pub fn lend(was: Session, length: usize, byte: u8, store: &mut [u8], out: &mut [u8]) -> Session {
+pub(crate) fn lend(
+    was: Session,
+    length: usize,
+    byte: u8,
+    store: &mut [u8],
+    out: &mut [u8],
+) -> Session {
     fill(store, byte);
     was.with_store(length).says(b"accepted", out)
 }
 
 // 'writes one byte of the lent store'; 'INDEX not below the length: `unknown`'.
-pub fn spoil(was: Session, index: u64, value: u8, store: &mut [u8], out: &mut [u8]) -> Session {
+pub(crate) fn spoil(
+    was: Session,
+    index: u64,
+    value: u8,
+    store: &mut [u8],
+    out: &mut [u8],
+) -> Session {
     let lent = most_of(was.lent, store);
     if lent as u64 <= index {
         return was.says(b"unknown", out);
