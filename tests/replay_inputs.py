@@ -87,19 +87,23 @@ def drawn_tick(chance, at):
     if far < 0.02:
         return at, f"tick {chance.choice([machine.END, machine.END - 1, 2**32, 2**64 - 1, 2**64])}"
     at = max(0, at + step)
+    if far > 0.8:
+        # in X's window, or a second before it
+        at = at - at % 86400 + 85200 + chance.choice([-1, 0, 300, 1199])
     return at, f"tick {at}"
 
 
-def drawn_call(chance):
-    slot = 827884800 // 1800 + chance.randrange(-50 * 48, 400 * 48)
+def drawn_call(chance, at):
+    slot = max(0, at // 1800 + chance.choice([0, 1, chance.randrange(-50 * 48, 200 * 48)]))
     return chance.choice(
         [
             lambda: f"ceiling {chance.choice([slot, slot, slot, 1753199, 1753200, 2**64 - 1])}",
-            lambda: f"failure {chance.choice(['update', 'fixed'])} {chance.choice([0, 0, 100, 200, 299, 404, 500, 599, 600, 2**40])}",
-            lambda: chance.choice(["due", "due", "command", "free", "state"]),
+            lambda: f"failure {chance.choice(['update', 'fixed'])} {chance.choice([0, 0, 0, 100, 200, 404, 404, 500, 599, 2**40])}",
+            lambda: chance.choice(["due", "command", "free"]),
+            lambda: "due",
             lambda: f"block {chance.choice([314, 315, 316, 320, 326, 0, 1199, 65850])}",
             lambda: f"request {chance.choice(['0000', '9995', '2604', '8888', '2613', 'hex:', 'hex:30303030', 'x'])}",
-            lambda: chance.choice(["lost", "due now", "tick", "# note", "", "byte 99999 1", "block", "tick 1 "]),
+            lambda: chance.choice(["lost", "lost", "due now", "tick", "# note", "", "byte 99999 1", "block", "tick 1 "]),
         ]
     )()
 
@@ -119,7 +123,7 @@ def drawn_spoil(chance):
 def drawn_list(seed):
     """A list of calls: ticks, files and questions, with a spoilt store now and then."""
     chance, at, lines = random.Random(seed), 827884800 + 32400, []
-    lines += chance.choice([READY, READY, ["tick 5"], [INSTALL, "tick 3"]])
+    lines += chance.choice([READY] * 18 + [["tick 5"], [INSTALL, "tick 3"]])
     for _ in range(chance.randrange(20, 80)):
         kind = chance.random()
         if kind < 0.3:
@@ -127,7 +131,7 @@ def drawn_list(seed):
         elif kind < 0.55:
             line = take(chance)
         elif kind < 0.97:
-            line = drawn_call(chance)
+            line = drawn_call(chance, at)
         else:
             line = drawn_spoil(chance)
         lines.append(line)
