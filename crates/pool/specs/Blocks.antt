@@ -1,9 +1,11 @@
 -- The pool of sixteen blocks: which are free, which month a used one holds, and what each call answers.
 use mathlib.Core.Bool.{Bool, true, false, cond, not, _&&_, _||_}
-use Prim.Native.Nat.{ℕ}
+use mathlib.Core.Path.{_≡_}
+use mathlib.Core.List.{List}
+use Prim.Native.Nat.{ℕ, _+_, _<_}
 use lib.Dec.{eqb, ltb, leb}
 use lib.ListN.{getD, set}
-use Rattle.pool.specs.Below.{countBelow, allBelow, firstBelow, number, bit}
+use Rattle.pool.specs.Below.{countBelow, allBelow, firstBelow, pairsBelow, number, bit}
 use Rattle.pool.specs.declared.Pool.{Pool}
 use Rattle.pool.specs.declared.Taken.{Taken}
 use Rattle.pool.specs.declared.Found.{Found}
@@ -50,14 +52,21 @@ freeAfter p floor b = isFree p b || ltb (monthOf p b) floor
 unfoldable pub releaseOf : Pool → ℕ → Pool
 releaseOf p floor = record { months = p .months; free = number 16 (freeAfter p floor) }
 
--- block b is free, or its month is between floor and 1199, and no other block holds it
-unfoldable pub blockSound : Pool → ℕ → ℕ → Bool
-blockSound p floor b =
-    isFree p b || leb floor (monthOf p b) && leb (monthOf p b) 1199 && leb (countBelow 16 (holds p (monthOf p b))) 1
+-- block b is free, or its month is between floor and 1199
+abbrev pub inRange : Pool → ℕ → ℕ → Bool
+inRange p floor b = isFree p b || leb floor (monthOf p b) && leb (monthOf p b) 1199
 
--- the used blocks' months are between floor and 1199, and no two are the same
+-- the month of block b, or a number past all months where it is free
+abbrev pub keyOf : Pool → ℕ → ℕ
+keyOf p b = cond (isFree p b) (2000 + b) (monthOf p b)
+
+-- the keys of the sixteen blocks
+abbrev pub KeysOf : Pool → List ℕ → Type 0
+KeysOf p keys = (b : ℕ) → b < 16 → getD keys b 0 ≡ keyOf p b
+
+-- the used blocks' months are between floor and 1199, and no two are the same: each block has its key with itself alone
 unfoldable pub soundOf : Pool → ℕ → Bool
-soundOf p floor = allBelow 16 (blockSound p floor)
+soundOf p floor = allBelow 16 (inRange p floor) && leb (pairsBelow 16 (keyOf p)) 16
 
 -- month m has its own block, or is given a free one
 abbrev pub holdBy : Pool → ℕ → Found → Taken

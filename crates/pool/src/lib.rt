@@ -1,8 +1,10 @@
 ghost use mathlib.Core.Path.{_≡_};
 ghost use Prim.Native.Nat.{ℕ, _<_, _+_, _*_, _^_};
-ghost use Rattle.pool.specs.Below.{tick, countBelow};
+ghost use lib.Dec.{eqb};
+ghost use lib.ListN.{getD};
+ghost use Rattle.pool.specs.Below.{tick, countBelow, allBelow, pairsBelow};
 ghost use Rattle.pool.specs.Held.{soundPool};
-ghost use Rattle.pool.specs.Blocks.{holds, freeCount, findOf, takeOf, holdOf, freeAfter, releaseOf, blockSound};
+ghost use Rattle.pool.specs.Blocks.{holds, freeCount, findOf, takeOf, holdOf, freeAfter, releaseOf, inRange, keyOf, KeysOf};
 
 // Sixteen blocks: bit b of free is set where block b is free, and months[b] is the month of a used block b.
 pub struct Pool {
@@ -31,6 +33,35 @@ fn digit(t: bool, b: usize) -> u16
     ensures { λ r. ⌜ r ≡ tick t * 2 ^ b ⌝ }
 {
     (t as u16) << b
+}
+
+// Keys of free blocks are from here on.
+const FREE_KEYS: u16 = 2000;
+
+// How many blocks have the key. It looks at each, so that it vectorises.
+fn same_keys(keys: [u16; 16], key: u16) -> u16
+    ensures { λ r. ⌜ r ≡ countBelow 16 (λ c. eqb (getD keys c 0) key) ⌝ }
+{
+    let mut count: u16 = 0;
+    let mut b: usize = 0;
+    while b < 16 {
+        count += (keys[b] == key) as u16;
+        b += 1;
+    }
+    count
+}
+
+// How many pairs of two blocks, or of a block and itself, have one key.
+fn pairs(keys: [u16; 16]) -> u16
+    ensures { λ r. ⌜ r ≡ pairsBelow 16 (λ c. getD keys c 0) ⌝ }
+{
+    let mut count: u16 = 0;
+    let mut b: usize = 0;
+    while b < 16 {
+        count += same_keys(keys, keys[b]);
+        b += 1;
+    }
+    count
 }
 
 impl Pool {
@@ -106,40 +137,59 @@ impl Pool {
         Pool { months, free }
     }
 
-    // How many used blocks have the month. It looks at each, so that it vectorises.
-    fn holders(self, month: u16) -> u16
-        ensures { λ r. ⌜ r ≡ countBelow 16 (holds self month) ⌝ }
-    {
-        let mut count: u16 = 0;
-        let mut b: usize = 0;
-        while b < 16 {
-            count += self.holds_month(month, b) as u16;
-            b += 1;
-        }
-        count
-    }
-
-    // Whether block b is free, or has a month between floor and 1199 that no other block has.
-    fn block_sound(self, floor: u16, b: usize) -> bool
+    // Whether block b is free, or has a month between floor and 1199.
+    fn in_range(self, floor: u16, b: usize) -> bool
         requires { ⌜ b < 16 ⌝ }
-        ensures { λ r. ⌜ r ≡ blockSound self floor b ⌝ }
+        ensures { λ r. ⌜ r ≡ inRange self floor b ⌝ }
     {
         let months = self.months;
         let month = months[b];
         let free = (self.free >> b) % 2 == 1;
-        free | (floor <= month) & (month <= 1199) & (self.holders(month) <= 1)
+        free | (floor <= month) & (month <= 1199)
     }
 
-    pub fn sound(self, floor: u16) -> bool
-        ensures { λ r. ⌜ r ≡ soundPool self floor ⌝ }
+    fn all_in_range(self, floor: u16) -> bool
+        ensures { λ r. ⌜ r ≡ allBelow 16 (inRange self floor) ⌝ }
     {
         let mut good = true;
         let mut b: usize = 0;
         while b < 16 {
-            good = self.block_sound(floor, b) & good;
+            good = self.in_range(floor, b) & good;
             b += 1;
         }
         good
+    }
+
+    // The month of block b, or a number past all months where it is free, which no other block has.
+    fn key(self, b: usize) -> u16
+        requires { ⌜ b < 16 ⌝ }
+        ensures { λ r. ⌜ r ≡ keyOf self b ⌝ }
+    {
+        let months = self.months;
+        if (self.free >> b) % 2 == 1 {
+            FREE_KEYS + b as u16
+        } else {
+            months[b]
+        }
+    }
+
+    fn keys(self) -> [u16; 16]
+        ensures { λ r. ⌜ KeysOf self r ⌝ }
+    {
+        let mut keys = [0u16; 16];
+        let mut b: usize = 0;
+        while b < 16 {
+            keys[b] = self.key(b);
+            b += 1;
+        }
+        keys
+    }
+
+    // Each block has its own key where those pairs are 16.
+    pub fn sound(self, floor: u16) -> bool
+        ensures { λ r. ⌜ r ≡ soundPool self floor ⌝ }
+    {
+        self.all_in_range(floor) & (pairs(self.keys()) <= 16)
     }
 
     // The month's own block, or a free one.

@@ -2,30 +2,36 @@ use mathlib.Core.Path.{_≡_, refl}
 use Prim.Native.Nat.{_≤_, _-_}
 use native.Mathlib.Omega.{arith}
 use borrow.Author.Needs.{needs}
+use lib.Dec.{eqb}
+use lib.ListN.{getD}
 use Rattle.pool.specs.Below.{sumBelow, countBelow}
-use Rattle.pool.specs.Blocks.{holds}
 use Rattle.pool.proofs.BelowLaws.{byte-le, count-step}
-use Rattle.pool.proofs.Pool.holders.Statement.{statement}
-use Rattle.pool.proofs.Pool.holders.Tie as tie
+use Rattle.pool.proofs.same_keys.Statement.{statement}
+use Rattle.pool.proofs.same_keys.Tie as tie
 
 abbrev Inv-loop : tie.InvT-loop
-Inv-loop self month count₀ b₀ count b = (b ≤ 16) × (count ≤ b) × (count ≡ countBelow b (holds self month))
+Inv-loop key keys count₀ b₀ count b = (b ≤ 16) × (count ≤ b) × (count ≡ countBelow b (λ c. eqb (getD keys c 0) key))
 
 abbrev μ-loop : tie.MeasureT-loop
-μ-loop self month count₀ b₀ count b = 16 - b
+μ-loop key keys count₀ b₀ count b = 16 - b
 
 loop-holds : tie.Need-loop-holds Inv-loop μ-loop
 unfolding sumBelow
 loop-holds c = (search needs, search needs, refl)
 
-holds-month-requires : tie.Need-holds-month-requires Inv-loop μ-loop
-holds-month-requires c κs = search needs
+mul-count : tie.Need-mul-count Inv-loop μ-loop
+mul-count c = search needs
+
+array-read-count : tie.Need-array-read-count Inv-loop μ-loop
+array-read-count c = search needs
 
 cast-count : tie.Need-cast-count Inv-loop μ-loop
 cast-count c = search needs
 
 add-count : tie.Need-add-count Inv-loop μ-loop
-add-count c = omega (arith, byte-le (c .holds-month .result))
+add-count c =
+    let a = c .before .before .args in
+    omega (arith, byte-le (eqb (getD (a .t1) (c .before .loop .b) 0) (a .key)))
 
 add-b : tie.Need-add-b Inv-loop μ-loop
 add-b c = search needs
@@ -35,22 +41,23 @@ loop-less c = search needs
 
 loop-again : tie.Need-loop-again Inv-loop μ-loop
 loop-again c =
-    let a = c .before .before .before .args in
-    let l = c .before .before .loop in
-    let more = count-step (holds (a .self) (a .month)) (l .b) in
-    (search needs, omega (arith, byte-le (c .holds-month .result)), rw (c .holds-month .ensures) (omega arith))
+    let a = c .before .before .args in
+    let l = c .before .loop in
+    let more = count-step (λ c. eqb (getD (a .t1) c 0) (a .key)) (l .b) in
+    (search needs, omega (arith, byte-le (eqb (getD (a .t1) (l .b) 0) (a .key))), omega arith)
 
 returns : tie.Need-returns Inv-loop μ-loop
 returns c = let e : c .before .loop .b ≡ 16 = omega arith in cc
 
-pub holders-spec : {M : Type 1} → statement M
-holders-spec =
+pub same-keys-spec : {M : Type 1} → statement M
+same-keys-spec =
     tie.close
     (tie.spec
     Inv-loop
     μ-loop
     loop-holds
-    holds-month-requires
+    mul-count
+    array-read-count
     cast-count
     add-count
     add-b
