@@ -46,15 +46,19 @@ module _ (test : ℕ → Bool) (all : List ℕ → Bool) (none : all [] ≡ true
     worst-step s i v h e = rw (max-at-most v (value (getD s i 0)) m, sym e) (all-step s i (leb v m) h)
 
 module _ (s : List ℕ) (i v m : ℕ) where
-  pub at-most-step : i < length s → (leb v m && allAtMost m (drop i s)) ≡ (leb (max v (getD s i 0)) m && allAtMost m (drop (i + 1) s))
+  pub greatest-step : i < length s → (leb v m && allAtMost m (drop i s)) ≡ (leb (max v (getD s i 0)) m && allAtMost m (drop (i + 1) s))
   unfolding allAtMost
-  at-most-step h = worst-step (λ x. leb x m) (allAtMost m) refl (λ x xs. refl) (λ x. x) m s i v h refl
-
-  pub at-most-end : length s ≤ i → (leb v m && allAtMost m (drop i s)) ≡ leb v m
-  unfolding allAtMost
-  at-most-end = all-end (λ x. leb x m) (allAtMost m) refl (λ x xs. refl) s i (leb v m)
+  greatest-step h = worst-step (λ x. leb x m) (allAtMost m) refl (λ x xs. refl) (λ x. x) m s i v h refl
 
 module _ (s : List ℕ) (i : ℕ) (b : Bool) where
+  pub flag-step : (m : ℕ) → i < length s → (b && allAtMost m (drop i s)) ≡ ((b && leb (getD s i 0) m) && allAtMost m (drop (i + 1) s))
+  unfolding allAtMost
+  flag-step m = all-step (λ x. leb x m) (allAtMost m) refl (λ x xs. refl) s i b
+
+  pub flag-end : (m : ℕ) → length s ≤ i → (b && allAtMost m (drop i s)) ≡ b
+  unfolding allAtMost
+  flag-end m = all-end (λ x. leb x m) (allAtMost m) refl (λ x xs. refl) s i b
+
   pub ascii-step : i < length s
       → (b && allAscii (drop i s)) ≡ ((b && (leb 48 (getD s i 0) && leb (getD s i 0) 57)) && allAscii (drop (i + 1) s))
   unfolding allAscii

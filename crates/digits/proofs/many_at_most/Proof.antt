@@ -7,9 +7,9 @@ use borrow.Author.Tests.{le-leb}
 use lib.Dec.{leb}
 use lib.ListN.{length, drop}
 use Rattle.rules.specs.Digits.{allAtMost}
-use Rattle.digits.proofs.Scan.{at-most-step, at-most-end}
-use Rattle.digits.proofs.all_at_most.Statement.{statement}
-use Rattle.digits.proofs.all_at_most.Tie as tie
+use Rattle.digits.proofs.Scan.{greatest-step, flag-end}
+use Rattle.digits.proofs.many_at_most.Statement.{statement}
+use Rattle.digits.proofs.many_at_most.Tie as tie
 
 abbrev Inv-loop : tie.InvT-loop
 Inv-loop s most worst₀ i₀ worst i = (i ≤ length s) × (allAtMost most s ≡ (leb worst most && allAtMost most (drop i s)))
@@ -36,17 +36,17 @@ loop-again : tie.Need-loop-again Inv-loop μ-loop
 loop-again c =
     let a = c .before .before .before .before .before .args in
     let l = c .before .before .before .loop in
-    let h = at-most-step (now (a .s)) (l .i) (l .worst) (a .most) (c .before .before .loop-test .taken) in
+    let h = greatest-step (now (a .s)) (l .i) (l .worst) (a .most) (c .before .before .loop-test .taken) in
     (omega arith, rw (c .greater .ensures) (l .inv .1 ∙ h))
 
 returns : tie.Need-returns Inv-loop μ-loop
 returns c =
     let a = c .before .before .before .args in
     let l = c .before .loop in
-    sym (l .inv .1 ∙ at-most-end (now (a .s)) (l .i) (l .worst) (a .most) (c .loop-test .left))
+    sym (l .inv .1 ∙ flag-end (now (a .s)) (l .i) (leb (l .worst) (a .most)) (a .most) (c .loop-test .left))
 
-pub all-at-most-spec : {M : Type 1} → statement M
-all-at-most-spec =
+pub many-at-most-spec : {M : Type 1} → statement M
+many-at-most-spec =
     tie.close
     (tie.spec
     Inv-loop
