@@ -13,7 +13,7 @@ const ID_LENGTH: usize = 26;
 // The check digit is the last one; those before it have weights.
 const CHECK_PLACE: usize = ID_LENGTH - 1;
 
-// 'Weights 1, 3, 5, 7, 9 repeating', one for each digit, so that the weighted sum vectorises.
+// 'Weights 1, 3, 5, 7, 9 repeating', one for each digit, so that no remainder is taken for each.
 const WEIGHTS: [u8; CHECK_PLACE] =
     *b"\x01\x03\x05\x07\x09\x01\x03\x05\x07\x09\x01\x03\x05\x07\x09\x01\x03\x05\x07\x09\x01\x03\x05\x07\x09";
 
