@@ -45,6 +45,14 @@ done
 answer=$(coproc R { "$replay"; }; printf 'due\n' >&"${R[1]}"; IFS= read -r -t 5 line <&"${R[0]}"; printf '%s' "$line"; eval "exec ${R[1]}>&-"; wait)
 if [ "$answer" = 'no unit' ]; then passed=$((passed + 1)); else echo "FAILED: the answer came late: \`$answer\`"; failed=$((failed + 1)); fi
 
+# lists of calls drawn at random, against the plain machine in Rust
+if CARGO_TARGET_DIR=$PWD/target/cargo cargo run --quiet --release --offline --locked --manifest-path tests/Cargo.toml --bin replay_lists -- "$replay" 400; then
+    passed=$((passed + 1))
+else
+    echo 'FAILED: lists of calls drawn at random'
+    failed=$((failed + 1))
+fi
+
 # the story is the one that scripts/story writes
 if cmp -s "$folder/story.written" story/fiscal_year.txt; then
     passed=$((passed + 1))

@@ -94,7 +94,7 @@ pub fn read_moment(digits: &[u8]) -> Moment
     if digits.len() != MOMENT_DIGITS {
         return Moment::Missing;
     }
-    if !digits::all_at_most(digits, HIGHEST_DIGIT) {
+    if !digits::few_at_most(digits, HIGHEST_DIGIT) {
         return Moment::Missing;
     }
     let year = 100 * pair(digits, 0) + pair(digits, 2);

@@ -19,21 +19,8 @@ pub fn greater(a: u8, b: u8) -> u8
     if a <= b { b } else { a }
 }
 
-// Whether every byte is at most `most`, by a flag: less for each byte that is tested alone.
-fn few_at_most(s: &[u8], most: u8) -> bool
-    ensures { λ r. ⌜ r ≡ allAtMost most (now (s .entry)) ⌝ }
-{
-    let mut all = true;
-    let mut i = 0;
-    while i < s.len() {
-        all = all & (s[i] <= most);
-        i += 1;
-    }
-    all
-}
-
-// The same by the greatest byte: one vector operation for 16 bytes.
-fn many_at_most(s: &[u8], most: u8) -> bool
+// Whether every byte of `s` is at most `most`: the greatest is, which takes one vector operation for 16 bytes.
+pub fn all_at_most(s: &[u8], most: u8) -> bool
     ensures { λ r. ⌜ r ≡ allAtMost most (now (s .entry)) ⌝ }
 {
     let mut worst: u8 = 0;
@@ -45,18 +32,17 @@ fn many_at_most(s: &[u8], most: u8) -> bool
     worst <= most
 }
 
-// Fewer bytes than this, as a date's, are not worth a vector.
-const MANY: usize = 32;
-
-// Whether every byte of `s` is at most `most`.
-pub fn all_at_most(s: &[u8], most: u8) -> bool
+// The same by a flag, which takes less for each byte of a few, as a date's, that fill no vector.
+pub fn few_at_most(s: &[u8], most: u8) -> bool
     ensures { λ r. ⌜ r ≡ allAtMost most (now (s .entry)) ⌝ }
 {
-    if s.len() < MANY {
-        few_at_most(s, most)
-    } else {
-        many_at_most(s, most)
+    let mut all = true;
+    let mut i = 0;
+    while i < s.len() {
+        all = all & (s[i] <= most);
+        i += 1;
     }
+    all
 }
 
 // Whether every byte of `s` is an ASCII digit.

@@ -58,13 +58,13 @@ day-test c = ap₂ (λ (a : Bool) (b : Bool). a && b) (sym (c .before .is-day .e
 returns : tie.Need-returns
 returns c = sym (ap momentOf (moment-short (text (c .before .before)) (c .if1 .taken)))
 
-all-at-most-requires : tie.Need-all-at-most-requires
-all-at-most-requires c κs = search needs
+few-at-most-requires : tie.Need-few-at-most-requires
+few-at-most-requires c κs = search needs
 
 returns-2 : tie.Need-returns-2
 returns-2 c =
     let first = c .before .before in
-    sym (ap momentOf (no-digits (text (first .before .before)) (first .if1 .left) (sym (c .before .all-at-most .ensures) ∙ not-true _ (c .if2 .taken))))
+    sym (ap momentOf (no-digits (text (first .before .before)) (first .if1 .left) (sym (c .before .few-at-most .ensures) ∙ not-true _ (c .if2 .taken))))
 
 pair-requires : tie.Need-pair-requires
 pair-requires c κs = search needs
@@ -134,7 +134,7 @@ returns-5 : tie.Need-returns-5
 returns-5 c =
     let d = c .before .before in
     let m = month-of d in
-    let all = sym (m .before .before .before .before .all-at-most .ensures) ∙ not-false _ (m .before .before .before .if2 .left) in
+    let all = sym (m .before .before .before .before .few-at-most .ensures) ∙ not-false _ (m .before .before .before .if2 .left) in
     sym (ap momentOf (is-date (month-read m) (time-read (d .before .before)) all (month-there (else3 d)) (day-test d ∙ not-false _ (c .before .if4 .left)) (c .second-at .ensures)))
 
 pub read-moment-spec : {M : Type 1} → statement M
@@ -142,7 +142,7 @@ read-moment-spec =
     tie.close
     (tie.spec
     returns
-    all-at-most-requires
+    few-at-most-requires
     returns-2
     pair-requires
     mul-year

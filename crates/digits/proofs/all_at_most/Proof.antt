@@ -8,8 +8,8 @@ use lib.Dec.{leb}
 use lib.ListN.{length, drop}
 use Rattle.rules.specs.Digits.{allAtMost}
 use Rattle.digits.proofs.Scan.{greatest-step, flag-end}
-use Rattle.digits.proofs.many_at_most.Statement.{statement}
-use Rattle.digits.proofs.many_at_most.Tie as tie
+use Rattle.digits.proofs.all_at_most.Statement.{statement}
+use Rattle.digits.proofs.all_at_most.Tie as tie
 
 abbrev Inv-loop : tie.InvT-loop
 Inv-loop s most worst₀ i₀ worst i = (i ≤ length s) × (allAtMost most s ≡ (leb worst most && allAtMost most (drop i s)))
@@ -45,8 +45,8 @@ returns c =
     let l = c .before .loop in
     sym (l .inv .1 ∙ flag-end (now (a .s)) (l .i) (leb (l .worst) (a .most)) (a .most) (c .loop-test .left))
 
-pub many-at-most-spec : {M : Type 1} → statement M
-many-at-most-spec =
+pub all-at-most-spec : {M : Type 1} → statement M
+all-at-most-spec =
     tie.close
     (tie.spec
     Inv-loop
