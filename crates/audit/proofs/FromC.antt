@@ -1,6 +1,6 @@
 -- The theorem for C: the unit's, and the list from C is the unit's. Assumes nothing.
 use mathlib.Core.Path.{_∙_}
-use Rattle.jagwelu.proofs.Lists.{same-from-c}
+use Rattle.audit.proofs.Lists.{same-from-c}
 use Rattle.audit.specs.Theorem.{fresh}
 use Rattle.audit.specs.FromC.{EveryListFromC}
 use Rattle.audit.proofs.EveryList.{every-list}

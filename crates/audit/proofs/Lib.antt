@@ -12,4 +12,5 @@ pub mod Ticks
 pub mod Acceptance
 pub mod Refusals
 pub mod Sentences
+pub mod Lists
 pub mod FromC

@@ -7,7 +7,7 @@ use Rattle.rules.specs.Machine.{Call, freshMachine, replies as machineReplies, 
 use Rattle.plant.specs.Plant.{validPlant}
 use Rattle.plant.specs.declared.Plant.{Plant}
 use Rattle.unit.specs.Step.{after}
-use Rattle.jagwelu.specs.Lists.{heldOf, heldReplies, heldAfter}
+use Rattle.audit.specs.Lists.{heldOf, heldReplies, heldAfter}
 use Rattle.audit.specs.Theorem.{fresh, told, Holds}
 
 -- for every list of calls from C, from the struct of any fresh unit and one store of any length and bytes: the answers are the machine's, and the

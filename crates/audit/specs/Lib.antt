@@ -3,4 +3,5 @@ pub mod Ticks
 pub mod Acceptance
 pub mod Refusals
 pub mod Sentences
+pub mod Lists
 pub mod FromC

@@ -1,13 +1,11 @@
--- Clocks of C's fields, what a call hands back, the number of a check, and the text's length in an error file. Assumes nothing.
+-- The number of a check, and the text's length in an error file. Assumes nothing.
 use Prim.Native.Nat.{ℕ, _-_, _≤_}
 use mathlib.Core.Path.{_≡_, refl, sym, ap, ap₂, _∙_}
 use mathlib.Core.Bool.{Bool, true, false, not, _&&_}
 use mathlib.Core.List.{List}
-use lib.Dec.{eqb}
 use lib.ListN.{length, length-drop}
 use borrow.Author.Tests.{eq-eqb, ne-eqb}
 use Rattle.rules.specs.Causes.{numberOf}
-use Rattle.rules.specs.declared.Answer.{Answer}
 use Rattle.rules.specs.declared.Cause.{Cause}
 use Rattle.rules.specs.ErrorFile.{isErrorFile, errorCode, errorText}
 use Rattle.rules.specs.Store.{storeLength}
@@ -18,27 +16,9 @@ use Rattle.schedule.specs.Stored.{storeHolds}
 use Rattle.unit.specs.Rows.{firstOf}
 use Rattle.unit.specs.Values.{isSound}
 use Rattle.unit.specs.declared.Unit.{Unit}
-use Rattle.unit.specs.declared.Done.{Done}
-use Rattle.unit.specs.declared.Clock.{Clock}
-use Rattle.unit.specs.declared.Clock.the-variants.{Unset, At}
 use Rattle.unit.proofs.LentLaws.{lent-row}
-use Rattle.jagwelu.specs.Held.{never, clockFrom, shutOf, handed}
-use Rattle.jagwelu.specs.Answers.{checkNumber, errorNumbers}
-use Rattle.jagwelu.specs.declared.held.HeldUnit.{HeldUnit}
-
-module _ (mark second : ℕ) where
-  pub clock-set : mark ≡ 1 → At second ≡ clockFrom mark second
-  unfolding clockFrom
-  clock-set h = rw (eq-eqb mark 1 h) refl
-
-  module _ (h : mark ≡ 1 → ⊥) where
-    pub clock-unset : (eqb mark 0 && eqb second 0) ≡ true → Unset ≡ clockFrom mark second
-    unfolding clockFrom
-    clock-unset k = rw (ne-eqb mark 1 h, k) refl
-
-    pub clock-never : (eqb mark 0 && eqb second 0) ≡ false → never ≡ clockFrom mark second
-    unfolding clockFrom
-    clock-never k = rw (ne-eqb mark 1 h, k) refl
+use Rattle.held.specs.Answers.{errorNumbers}
+use Rattle.jagwelu.specs.Check.{checkNumber}
 
 module _ (u : Unit) (store : List ℕ) where
   pub check-length : (length store ≡ storeLength → ⊥) → 3 ≡ checkNumber u store
@@ -57,17 +37,6 @@ module _ (u : Unit) (store : List ℕ) where
     pub check-bad : (a && b) ≡ false → 4 ≡ checkNumber u store
     unfolding checkNumber firstOf
     check-bad bad = rw (eq-eqb (length store) storeLength long, lent-row u store false long (tested false bad)) refl
-
--- ---- what a call hands back
-
-module _ (h : HeldUnit) (d : Done) where
-  pub handed-accepted : (v : HeldUnit) → d .answer ≡ Answer.Accepted → v ≡ shutOf (d .unit) → record { unit = v; cause = 0 } ≡ handed h d
-  unfolding handed
-  handed-accepted v a e = rw (a, e) refl
-
-  pub handed-refused : (c : Cause) (n : ℕ) → d .answer ≡ Answer.Refused c → n ≡ numberOf c → record { unit = h; cause = n } ≡ handed h d
-  unfolding handed
-  handed-refused c n a e = rw (a, e) refl
 
 -- ---- the error file
 

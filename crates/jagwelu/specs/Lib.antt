@@ -1,4 +1,1 @@
-pub mod Held
-pub mod Answers
-pub mod Handing
-pub mod Lists
+pub mod Check

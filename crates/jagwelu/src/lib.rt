@@ -1,7 +1,4 @@
 // What C calls (include/jagwelu.h): the unit's calls over a struct that C holds, and files read and written without a unit.
-mod answers;
-mod held;
-
 ghost use mathlib.Core.Path.{_≡_};
 ghost use mathlib.Core.Option.{none};
 ghost use lib.ListN.{length};
@@ -16,17 +13,18 @@ ghost use Rattle.unit.specs.Calls.{tickOf, lostOf, takeOf, storeAfterTake, fail
 ghost use Rattle.unit.specs.Request.{requestOf};
 ghost use Rattle.unit.specs.Values.{installedUnit};
 ghost use Rattle.writer.specs.Fields.{fieldsOf};
-ghost use Rattle.jagwelu.specs.Held.{opened, handed, newly};
-ghost use Rattle.jagwelu.specs.Answers.{checkNumber, dueNumbers, ceilingNumbers, commandNumber, blocksNumber, writtenNumbers, fileNumbers, errorNumbers};
-pub use answers::CeilingAnswer;
-pub use answers::DueAnswer;
-pub use answers::ErrorAnswer;
-pub use answers::FileAnswer;
-pub use answers::Number;
-pub use answers::WrittenBytes;
+ghost use Rattle.held.specs.Held.{opened, handed, newly};
+ghost use Rattle.jagwelu.specs.Check.{checkNumber};
+ghost use Rattle.held.specs.Answers.{dueNumbers, ceilingNumbers, commandNumber, blocksNumber, writtenNumbers, fileNumbers, errorNumbers};
 use error_file::ErrorCode;
-pub use held::Handed;
-pub use held::HeldUnit;
+use held::CeilingAnswer;
+use held::DueAnswer;
+use held::ErrorAnswer;
+use held::FileAnswer;
+use held::Handed;
+use held::HeldUnit;
+use held::Number;
+use held::WrittenBytes;
 use rules::Kind;
 use unit::Unit;
 
@@ -115,7 +113,7 @@ pub extern "C" fn jag_due(unit: HeldUnit) -> DueAnswer
     let opened = held::open(unit);
     let asked = opened.due();
     let due = asked.answer;
-    answers::due_answer(due)
+    held::due_answer(due)
 }
 
 #[no_mangle]
@@ -124,7 +122,7 @@ pub extern "C" fn jag_ceiling(unit: HeldUnit, slot: u64, store: &[u8]) -> Ceilin
 {
     let opened = held::open(unit);
     let ceiling = opened.ceiling(slot, store);
-    answers::ceiling_answer(ceiling)
+    held::ceiling_answer(ceiling)
 }
 
 #[no_mangle]
@@ -133,7 +131,7 @@ pub extern "C" fn jag_command(unit: HeldUnit) -> Number
 {
     let opened = held::open(unit);
     let command = opened.command();
-    answers::command_number(command)
+    held::command_number(command)
 }
 
 #[no_mangle]
@@ -142,7 +140,7 @@ pub extern "C" fn jag_free_blocks(unit: HeldUnit) -> Number
 {
     let opened = held::open(unit);
     let free = opened.free_blocks();
-    answers::blocks_number(free)
+    held::blocks_number(free)
 }
 
 #[no_mangle]
@@ -168,7 +166,7 @@ pub extern "C" fn jag_request(unit: HeldUnit, segment: &[u8], out: &mut [u8]) ->
 {
     let opened = held::open(unit);
     let written = opened.request(segment, out);
-    answers::written_bytes(written)
+    held::written_bytes(written)
 }
 
 #[no_mangle]
@@ -176,7 +174,7 @@ pub extern "C" fn jag_read(name: &[u8], body: &[u8]) -> FileAnswer
     ensures { λ r. ⌜ r ≡ fileNumbers (readingOf (readFile none (now (name .entry)) (now (body .entry)))) ⌝ }
 {
     let reading = transfer::read(name, body);
-    answers::file_answer(reading)
+    held::file_answer(reading)
 }
 
 #[no_mangle]
@@ -194,7 +192,7 @@ pub extern "C" fn jag_write_body(
     ensures buffer { λ _. ⌜ now (out .exit) ≡ bufferAfter (writeBody (fieldsOf format (now (plant .entry)) (now (schedule .entry)) (now (start .entry)) (now (next .entry)) (now (rates .entry)) flag) (length (now (out .entry)))) (now (out .entry)) ⌝ }
 {
     let written = writer::write_body(format, plant, schedule, start, next, rates, flag, out);
-    answers::written_bytes(written)
+    held::written_bytes(written)
 }
 
 #[no_mangle]

@@ -1,5 +1,5 @@
 -- `jagwelu::jag_due` meets its contract. Assumes nothing.
-use Rattle.jagwelu.specs.Answers.{dueNumbers}
+use Rattle.held.specs.Answers.{dueNumbers}
 use Rattle.unit.specs.Calls.{dueReply}
 use mathlib.Core.Path.{ap, _∙_}
 use borrow.Author.Needs.{needs}
