@@ -1,6 +1,6 @@
 // A line's call: carried out on the unit and the store, and answered.
 use crate::answers;
-use crate::session::Session;
+use crate::progress::Progress;
 use crate::shown;
 use crate::stores;
 use crate::stores::most_of;
@@ -12,24 +12,24 @@ use unit::Unit;
 
 // A call of the plain machine, through the unit's step.
 fn step(
-    was: Session,
+    was: Progress,
     call: Call,
     name: &[u8],
     body: &[u8],
     store: &mut [u8],
     out: &mut [u8],
-) -> Session {
+) -> Progress {
     let unit = was.unit;
     let lent = most_of(was.lent, store);
     let stepped = unit.step(call, name, body, &mut store[..lent]);
     let next = stepped.unit;
     let reply = stepped.reply;
-    let session = was.with_unit(next);
-    session.written(answers::put_reply(reply, out, session.at))
+    let progress = was.with_unit(next);
+    progress.written(answers::put_reply(reply, out, progress.at))
 }
 
 // 'Before an accepted install everything else answers `no unit`.'
-fn plain_step(was: Session, call: Call, store: &mut [u8], out: &mut [u8]) -> Session {
+fn plain_step(was: Progress, call: Call, store: &mut [u8], out: &mut [u8]) -> Progress {
     if was.installed {
         step(was, call, b"", b"", store, out)
     } else {
@@ -39,33 +39,33 @@ fn plain_step(was: Session, call: Call, store: &mut [u8], out: &mut [u8]) -> Ses
 
 // 'A refused install keeps the unit there was; an accepted one keeps the store.'
 fn install(
-    was: Session,
+    was: Progress,
     id: &[u8],
     mac: &[u8],
     panel: u64,
     inverter: u64,
     minutes: u64,
     out: &mut [u8],
-) -> Session {
+) -> Progress {
     let made = Unit::install(id, mac, panel, inverter, minutes);
     let answer = made.answer;
     let unit = made.unit;
     let at = answers::put_answer(answer, out, was.at);
-    let session = was.written(at);
+    let progress = was.written(at);
     match answer {
-        Answer::Accepted => session.with_unit(unit),
-        Answer::Refused(_) => session,
+        Answer::Accepted => progress.with_unit(unit),
+        Answer::Refused(_) => progress,
     }
 }
 
 fn install_line(
-    was: Session,
+    was: Progress,
     line: &[u8],
     panel: u64,
     inverter: u64,
     minutes: u64,
     out: &mut [u8],
-) -> Session {
+) -> Progress {
     let mut id = io::large_buffer();
     let mut mac = io::large_buffer();
     let Field::Length(long) = fields::digits_of(words::word(line, 1), &mut id) else {
@@ -87,7 +87,7 @@ fn install_line(
     )
 }
 
-fn take_line(was: Session, line: &[u8], store: &mut [u8], out: &mut [u8]) -> Session {
+fn take_line(was: Progress, line: &[u8], store: &mut [u8], out: &mut [u8]) -> Progress {
     let mut name = io::large_buffer();
     let mut body = io::large_buffer();
     let Field::Length(long) = fields::bytes_of(words::word(line, 1), &mut name) else {
@@ -112,7 +112,7 @@ fn take_line(was: Session, line: &[u8], store: &mut [u8], out: &mut [u8]) -> Ses
     }
 }
 
-fn request_line(was: Session, line: &[u8], out: &mut [u8]) -> Session {
+fn request_line(was: Progress, line: &[u8], out: &mut [u8]) -> Progress {
     let mut segment = io::large_buffer();
     let Field::Length(long) = fields::bytes_of(words::word(line, 1), &mut segment) else {
         return was.says(b"unknown", out);
@@ -126,7 +126,7 @@ fn request_line(was: Session, line: &[u8], out: &mut [u8]) -> Session {
     }
 }
 
-fn show_state(was: Session, out: &mut [u8]) -> Session {
+fn show_state(was: Progress, out: &mut [u8]) -> Progress {
     if was.installed {
         let unit = was.unit;
         was.written(shown::put_state(unit, out, was.at))
@@ -135,7 +135,7 @@ fn show_state(was: Session, out: &mut [u8]) -> Session {
     }
 }
 
-fn show_block(was: Session, month: u64, store: &[u8], out: &mut [u8]) -> Session {
+fn show_block(was: Progress, month: u64, store: &[u8], out: &mut [u8]) -> Progress {
     if was.installed {
         let unit = was.unit;
         let pool = unit.pool;
@@ -146,8 +146,8 @@ fn show_block(was: Session, month: u64, store: &[u8], out: &mut [u8]) -> Session
     }
 }
 
-// The session after a line.
-pub(crate) fn answer(was: Session, line: &[u8], store: &mut [u8], out: &mut [u8]) -> Session {
+// The progress after a line.
+pub(crate) fn answer(was: Progress, line: &[u8], store: &mut [u8], out: &mut [u8]) -> Progress {
     match script::ask_of(line) {
         Ask::Nothing => was,
         Ask::Unknown => was.says(b"unknown", out),

@@ -2,7 +2,7 @@
 ghost use mathlib.Core.Path.{_≡_};
 ghost use Prim.Native.Nat.{_+_, _≤_, min};
 ghost use lib.ListN.{length};
-use crate::session::Session;
+use crate::progress::Progress;
 use crate::stores::most_of;
 use libc::STDOUT_FILENO;
 
@@ -13,7 +13,7 @@ const LONGEST_ANSWER: usize = 4096;
 
 // What was read: how much of the present line stands in the line's buffer, whether it is longer than that, and whether more input can come.
 pub(crate) struct Reader {
-    pub session: Session,
+    pub progress: Progress,
     pub length: usize,
     pub over: bool,
     pub open: bool,
@@ -22,7 +22,7 @@ pub(crate) struct Reader {
 impl Reader {
     pub(crate) fn new() -> Reader {
         Reader {
-            session: Session::new(),
+            progress: Progress::new(),
             length: 0,
             over: false,
             open: true,
@@ -31,9 +31,9 @@ impl Reader {
 
     // The input has ended.
     pub(crate) fn ended(self) -> Reader {
-        let session = self.session;
+        let progress = self.progress;
         Reader {
-            session,
+            progress,
             length: self.length,
             over: self.over,
             open: false,
@@ -42,9 +42,9 @@ impl Reader {
 
     // With so much of a line.
     fn with_line(self, length: usize, over: bool) -> Reader {
-        let session = self.session;
+        let progress = self.progress;
         Reader {
-            session,
+            progress,
             length,
             over,
             open: self.open,
@@ -52,9 +52,9 @@ impl Reader {
     }
 
     // At the start of a line, after the last one was answered.
-    fn next_line(self, session: Session) -> Reader {
+    fn next_line(self, progress: Progress) -> Reader {
         Reader {
-            session,
+            progress,
             length: 0,
             over: false,
             open: self.open,
@@ -63,15 +63,15 @@ impl Reader {
 
     // With the answers written out.
     pub(crate) fn flushed(self, out: &[u8]) -> Reader {
-        let session = self.session;
-        let end = most_of(session.at, out);
+        let progress = self.progress;
+        let end = most_of(progress.at, out);
         io::write_all(STDOUT_FILENO, &out[..end]);
-        self.with_answers(session.written(0))
+        self.with_answers(progress.written(0))
     }
 
-    fn with_answers(self, session: Session) -> Reader {
+    fn with_answers(self, progress: Progress) -> Reader {
         Reader {
-            session,
+            progress,
             length: self.length,
             over: self.over,
             open: self.open,
@@ -92,18 +92,18 @@ fn gather(was: Reader, part: &[u8], line: &mut [u8]) -> Reader {
 
 // The line's answer.
 fn answer(was: Reader, line: &[u8], store: &mut [u8], out: &mut [u8]) -> Reader {
-    let session = was.session;
+    let progress = was.progress;
     if was.over {
-        return was.next_line(session.says(b"too long", out));
+        return was.next_line(progress.says(b"too long", out));
     }
     let length = most_of(was.length, line);
-    was.next_line(crate::calls::answer(session, &line[..length], store, out))
+    was.next_line(crate::calls::answer(progress, &line[..length], store, out))
 }
 
 // The same, after what was answered is written out where room gets short.
 fn answer_line(was: Reader, line: &[u8], store: &mut [u8], out: &mut [u8]) -> Reader {
-    let session = was.session;
-    let at = most_of(session.at, out);
+    let progress = was.progress;
+    let at = most_of(progress.at, out);
     if out.len() - at < LONGEST_ANSWER {
         return answer(was.flushed(out), line, store, out);
     }

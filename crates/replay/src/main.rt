@@ -4,7 +4,7 @@ ghost use Prim.Native.Nat.{_<_};
 mod answers;
 mod calls;
 mod input;
-mod session;
+mod progress;
 mod shown;
 mod stores;
 

@@ -1,6 +1,6 @@
 // The lent store: its length, its bytes, and one of them spoilt.
 ghost use Rattle.io.specs.Counts.{Counts};
-use crate::session::Session;
+use crate::progress::Progress;
 
 // 'a store of LENGTH bytes, at most 32768'.
 const LONGEST_STORE: usize = 32768;
@@ -28,24 +28,24 @@ fn fill(store: &mut [u8], byte: u8) {
 
 // 'lends a store of LENGTH bytes, each BYTE'.
 pub(crate) fn lend(
-    was: Session,
+    was: Progress,
     length: usize,
     byte: u8,
     store: &mut [u8],
     out: &mut [u8],
-) -> Session {
+) -> Progress {
     fill(store, byte);
     was.with_store(length).says(b"accepted", out)
 }
 
 // 'writes one byte of the lent store'; 'INDEX not below the length: `unknown`'.
 pub(crate) fn spoil(
-    was: Session,
+    was: Progress,
     index: u64,
     value: u8,
     store: &mut [u8],
     out: &mut [u8],
-) -> Session {
+) -> Progress {
     let lent = most_of(was.lent, store);
     if lent as u64 <= index {
         return was.says(b"unknown", out);

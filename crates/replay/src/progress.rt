@@ -2,19 +2,19 @@
 use unit::Unit;
 
 // The unit, whether one was installed, how many bytes of the store are lent, and the place in the output behind the last answer.
-pub(crate) struct Session {
+pub(crate) struct Progress {
     pub unit: Unit,
     pub installed: bool,
     pub lent: usize,
     pub at: usize,
 }
 
-impl Session {
+impl Progress {
     // 'before `store` the store is empty'; the unit is one that is not sound, since no values were given.
-    pub(crate) fn new() -> Session {
+    pub(crate) fn new() -> Progress {
         let none = Unit::install(b"", b"", 0, 0, 0);
         let unit = none.unit;
-        Session {
+        Progress {
             unit,
             installed: false,
             lent: 0,
@@ -23,9 +23,9 @@ impl Session {
     }
 
     // With this much in the output.
-    pub(crate) fn written(self, at: usize) -> Session {
+    pub(crate) fn written(self, at: usize) -> Progress {
         let unit = self.unit;
-        Session {
+        Progress {
             unit,
             installed: self.installed,
             lent: self.lent,
@@ -34,13 +34,13 @@ impl Session {
     }
 
     // A line goes out.
-    pub(crate) fn says(self, text: &[u8], out: &mut [u8]) -> Session {
+    pub(crate) fn says(self, text: &[u8], out: &mut [u8]) -> Progress {
         let at = fields::put_text(out, self.at, text);
         self.written(fields::put_text(out, at, b"\n"))
     }
 
-    pub(crate) fn with_unit(self, unit: Unit) -> Session {
-        Session {
+    pub(crate) fn with_unit(self, unit: Unit) -> Progress {
+        Progress {
             unit,
             installed: true,
             lent: self.lent,
@@ -48,9 +48,9 @@ impl Session {
         }
     }
 
-    pub(crate) fn with_store(self, lent: usize) -> Session {
+    pub(crate) fn with_store(self, lent: usize) -> Progress {
         let unit = self.unit;
-        Session {
+        Progress {
             unit,
             installed: self.installed,
             lent,
