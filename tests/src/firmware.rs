@@ -104,6 +104,27 @@ pub struct FileAnswer {
     pub result: u32,
 }
 
+impl FileAnswer {
+    /// The answer that reading must give: a summary in the order of
+    /// `File::summary`, or a cause's number.
+    pub fn of(reading: Result<[u32; 8], u8>) -> FileAnswer {
+        let cause = reading.err().map_or(0, u32::from);
+        let [format, segment, records, rates, start, flag, next_access, result] =
+            reading.unwrap_or([0; 8]);
+        FileAnswer {
+            cause,
+            format,
+            segment,
+            records,
+            rates,
+            start,
+            flag,
+            next_access,
+            result,
+        }
+    }
+}
+
 /// `jag_error`.
 #[repr(C)]
 #[derive(Clone, Copy, Debug, PartialEq, Eq)]

@@ -16,40 +16,10 @@ use compare::tally::Tally;
 /// Inputs of each kind; `compare` and `compare_outputs` have many more.
 const INPUTS: usize = 20_000;
 
-/// The answer's cause, and its fields in the order of `File::summary`.
-fn split(answer: FileAnswer) -> (u32, [u32; 8]) {
-    let FileAnswer {
-        cause,
-        format,
-        segment,
-        records,
-        rates,
-        start,
-        flag,
-        next_access,
-        result,
-    } = answer;
-    let fields = [
-        format,
-        segment,
-        records,
-        rates,
-        start,
-        flag,
-        next_access,
-        result,
-    ];
-    (cause, fields)
-}
-
 fn compare_read(case: &Case, tally: &mut Tally) {
     let expected = read(None, &case.name, &case.body).map(|file| file.summary());
-    let due = match expected {
-        Ok(summary) => (0, summary),
-        Err(cause) => (u32::from(cause), [0; 8]),
-    };
-    let answer = split(firmware::read(&case.name, &case.body));
-    assert_eq!(answer, due, "{:?}", case.words);
+    let answer = firmware::read(&case.name, &case.body);
+    assert_eq!(answer, FileAnswer::of(expected), "{:?}", case.words);
     tally.add(&expected);
 }
 

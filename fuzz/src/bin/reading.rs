@@ -20,22 +20,7 @@ fn name_and_body(input: &mut Input) -> (Vec<u8>, Vec<u8>) {
 
 fn reading(bytes: &[u8]) {
     let (name, body) = name_and_body(&mut Input::new(bytes));
-    let (cause, summary) = match read(None, &name, &body) {
-        Ok(file) => (0, file.summary()),
-        Err(cause) => (u32::from(cause), [0; 8]),
-    };
-    let [format, segment, records, rates, start, flag, next_access, result] = summary;
-    let expected = FileAnswer {
-        cause,
-        format,
-        segment,
-        records,
-        rates,
-        start,
-        flag,
-        next_access,
-        result,
-    };
+    let expected = FileAnswer::of(read(None, &name, &body).map(|file| file.summary()));
     let answer = firmware::read(&name, &body);
     let shown = String::from_utf8_lossy(&name);
     assert_eq!(answer, expected, "name {shown:?}, body {body:?}");

@@ -82,20 +82,9 @@ fn full_pair(clock: u64, random: &mut Random) -> Both {
 
 /// The library's answer and the fast reader's must be the same.
 fn compare_reading(file: &File) {
-    let summary = fast::read(None, &file.name, &file.body).expect("a good file");
-    let [format, segment, records, rates, start, flag, next_access, result] = summary;
-    let due = FileAnswer {
-        cause: 0,
-        format,
-        segment,
-        records,
-        rates,
-        start,
-        flag,
-        next_access,
-        result,
-    };
-    assert_eq!(firmware::read(&file.name, &file.body), due);
+    let due = fast::read(None, &file.name, &file.body);
+    assert!(due.is_ok(), "a good file");
+    assert_eq!(firmware::read(&file.name, &file.body), FileAnswer::of(due));
 }
 
 fn race_reading(title: &str, calls: u32, file: &File) -> Row {
