@@ -1,6 +1,6 @@
 #!/usr/bin/env bash
-# Builds the C program of tests/c with the header and the static library, as C and as C++ (the header's layout is asserted in both), runs
-# it, also under valgrind where that is there, and compares what it prints. Ends in `N passed, M failed`.
+# Builds the C program of tests/c with the header and the static library, as C and as C++, runs it, also under valgrind, and compares what
+# it prints. Tries what the header's assertions must refuse. Ends in `N passed, M failed`.
 set -u
 cd "$(dirname "$0")/.." || exit 1
 passed=0
@@ -18,29 +18,43 @@ expect() {
     fi
 }
 
+have() {
+    command -v "$1" >/dev/null
+}
+
 # What a program prints, held to the file.
 prints() {
     "$@" >target/c/printed && diff tests/c/firmware.expected target/c/printed
 }
 
-build() {
+build_c() {
     gcc -O2 -Wall -Wextra -Werror -std=c11 -Iinclude tests/c/firmware.c target/staticlib/libjagwelu.a -o target/c/firmware
 }
 
-# The header alone, by a C++ compiler.
-header() {
-    echo '#include "jagwelu.h"' | g++ -Wall -Wextra -Werror -Iinclude -x c++ -fsyntax-only -
+build_cpp() {
+    g++ -O2 -Wall -Wextra -Werror -std=c++17 -Iinclude -x c++ tests/c/firmware.c -x none target/staticlib/libjagwelu.a -o target/c/firmware_cpp
+}
+
+# refuses TEXT OPTION..: the compiler refuses the header with these options, and says so in these words.
+refuses() {
+    local text=$1
+    shift
+    ! gcc -std=c11 -ffreestanding "$@" -x c -fsyntax-only include/jagwelu.h 2>target/c/said && grep -q "$text" target/c/said
 }
 
 mkdir -p target/c || exit 1
+for tool in gcc g++ valgrind python3; do
+    expect "looking for $tool" have "$tool"
+done
 expect 'the static library' scripts/archive jagwelu
-expect 'the C program builds' build
+expect 'the C program builds' build_c
 expect 'the C program prints what it should' prints target/c/firmware
-if command -v g++ >/dev/null; then
-    expect 'the header in C++' header
-fi
-if command -v valgrind >/dev/null; then
-    expect 'the C program under valgrind' prints valgrind --quiet --error-exitcode=1 target/c/firmware
-fi
+expect 'the C program as C++ builds' build_cpp
+expect 'the C program as C++ prints the same' prints target/c/firmware_cpp
+expect 'the C program under valgrind' prints valgrind --quiet --error-exitcode=1 target/c/firmware
+expect 'a header with two fields exchanged is refused' python3 tests/header_swaps.py include/jagwelu.h
+expect 'a 32-bit compiler is refused' refuses 'is compiled for x86-64, where a size_t has 8 bytes' -m32
+expect 'another machine is refused' refuses 'is compiled for x86-64 with the System V calling convention' -U__x86_64__
+expect 'the header alone is taken' gcc -std=c11 -ffreestanding -Wall -Wextra -Werror -x c -fsyntax-only include/jagwelu.h
 printf '%d passed, %d failed\n' "$passed" "$failed"
 [ "$failed" -eq 0 ] && [ "$passed" -gt 0 ]

@@ -1,10 +1,9 @@
 #!/usr/bin/env bash
-# Runs the built lister on inputs made from document 01, and compares the lines that it prints.
+# Runs the lister, built from the source as it is, on inputs made from document 01, and compares the lines that it prints.
 set -u
 cd "$(dirname "$0")/.." || exit 1
 lister=target/bin/lister
-if [ ! -x "$lister" ]; then
-    echo "error: $lister is missing: \`rt check\` builds it"
+if ! scripts/program lister; then
     echo '0 passed, 1 failed'
     exit 1
 fi
@@ -39,6 +38,36 @@ for case in example-10 yearly-of-19681-bytes longest-body longest-body-and-a-byt
     { head -c 40; sleep 0.1; cat; } <"$folder/$case.input" | "$lister" >"$folder/wrote" 2>"$folder/said"
     same "$case" "${PIPESTATUS[1]}"
 done
+
+# the README says how much stack it takes: some 1.3 MB
+(ulimit -s 1400 && exec "$lister") <"$folder/longest-body.input" >"$folder/wrote" 2>"$folder/said"
+same longest-body "$?"
+
+# says_why NAME STATUS: whether the lister ended well, printed no line, and said on standard error that a read failed.
+says_why() {
+    if [ "$2" -eq 0 ] && [ ! -s "$folder/wrote" ] && [ "$(cat "$folder/said")" = 'lister: standard input could not be read' ]; then
+        passed=$((passed + 1))
+    else
+        printf 'FAILED %s: wrote `%s`, said `%s`\n' "$1" "$(head -c 200 "$folder/wrote")" "$(head -c 200 "$folder/said")"
+        failed=$((failed + 1))
+    fi
+}
+
+# a read that fails is not the end of the input: a folder, no input at all, and a connection that is cut within the body
+"$lister" </ >"$folder/wrote" 2>"$folder/said"
+says_why 'a folder as input' "$?"
+"$lister" <&- >"$folder/wrote" 2>"$folder/said"
+says_why 'a closed input' "$?"
+python3 tests/cut_input.py "$folder/example-10.input" "$lister" >"$folder/wrote" 2>"$folder/said"
+says_why 'an input that is cut' "$?"
+
+# the input that `rt check` runs the lister on is example 10
+if cmp -s crates/lister/stdin "$folder/example-10.input"; then
+    passed=$((passed + 1))
+else
+    echo 'FAILED: crates/lister/stdin is not example 10'
+    failed=$((failed + 1))
+fi
 
 printf '%d passed, %d failed\n' "$passed" "$failed"
 [ "$failed" -eq 0 ] && [ "$passed" -gt 0 ]

@@ -1,10 +1,9 @@
 #!/usr/bin/env bash
-# Runs the built program `replay` on lists of calls, and compares its answers with those that document 01 has.
+# Runs the program `replay`, built from the source as it is, on lists of calls, and compares its answers with those that document 01 has.
 set -u
 cd "$(dirname "$0")/.." || exit 1
 replay=target/bin/replay
-if [ ! -x "$replay" ]; then
-    echo "error: $replay is missing: \`rt check\` builds it"
+if ! scripts/program replay; then
     echo '0 passed, 1 failed'
     exit 1
 fi
@@ -44,6 +43,29 @@ done
 # an answer comes before the next line is given
 answer=$(coproc R { "$replay"; }; printf 'due\n' >&"${R[1]}"; IFS= read -r -t 5 line <&"${R[0]}"; printf '%s' "$line"; eval "exec ${R[1]}>&-"; wait)
 if [ "$answer" = 'no unit' ]; then passed=$((passed + 1)); else echo "FAILED: the answer came late: \`$answer\`"; failed=$((failed + 1)); fi
+
+# the README says how much stack it takes: some 0.4 MB
+(ulimit -s 480 && exec "$replay") <"$folder/story.input" >"$folder/wrote" 2>"$folder/said"
+same story "$?"
+
+# says_why NAME STATUS ANSWERS: whether the program ended well, gave these answers and said on standard error that a read failed.
+says_why() {
+    if [ "$2" -eq 0 ] && [ "$(cat "$folder/wrote")" = "$3" ] && [ "$(cat "$folder/said")" = 'replay: standard input could not be read to its end' ]; then
+        passed=$((passed + 1))
+    else
+        printf 'FAILED %s: wrote `%s`, said `%s`\n' "$1" "$(head -c 200 "$folder/wrote")" "$(head -c 200 "$folder/said")"
+        failed=$((failed + 1))
+    fi
+}
+
+# a read that fails is not the end of the input: a folder, no input at all, and a connection that is cut within a line; that line is not answered
+"$replay" </ >"$folder/wrote" 2>"$folder/said"
+says_why 'a folder as input' "$?" ''
+"$replay" <&- >"$folder/wrote" 2>"$folder/said"
+says_why 'a closed input' "$?" ''
+printf 'store 23808 255\nstore 5 0\nstore 6 17' >"$folder/cut"
+python3 tests/cut_input.py "$folder/cut" "$replay" >"$folder/wrote" 2>"$folder/said"
+says_why 'an input that is cut' "$?" $'accepted\naccepted'
 
 # lists of calls drawn at random, against the plain machine in Rust
 if CARGO_TARGET_DIR=$PWD/target/cargo cargo run --quiet --release --offline --locked --manifest-path tests/Cargo.toml --bin replay_lists -- "$replay" 400; then

@@ -27,12 +27,12 @@ fn greatest(bytes: &[u8]) -> u8 {
 /// lanes' arrays become vector registers.
 #[inline]
 fn survey(rates: &[u8]) -> (u8, u32) {
-    let (rows, rest) = rates.as_chunks::<LANES>();
+    let (rows, rest) = rates.split_at(rates.len() - rates.len() % LANES);
     let mut most = [0; LANES];
     let mut sum = rest.iter().map(|rate| u32::from(*rate)).sum();
-    for stretch in rows.chunks(STRETCH) {
+    for stretch in rows.chunks(STRETCH * LANES) {
         let mut sums = [0_u16; LANES];
-        for row in stretch {
+        for row in stretch.chunks_exact(LANES) {
             most = from_fn(|lane| row[lane].max(most[lane]));
             sums = from_fn(|lane| sums[lane] + u16::from(row[lane]));
         }
@@ -48,7 +48,7 @@ fn two(digits: &[u8]) -> u32 {
 
 #[inline]
 fn is_leap(year: u32) -> bool {
-    year.is_multiple_of(4)
+    year % 4 == 0
 }
 
 #[inline]

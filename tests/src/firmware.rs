@@ -2,8 +2,6 @@
 //! the structs with the header's layout, and, where the library is linked,
 //! safe calls.
 
-use std::mem::{offset_of, size_of};
-
 #[cfg(feature = "linked")]
 pub mod answers;
 #[cfg(feature = "linked")]
@@ -135,35 +133,20 @@ pub struct ErrorAnswer {
     pub code: u32,
 }
 
-// The header's own assertions, number by number.
-const _: () = {
-    assert!(offset_of!(Unit, id) == 0);
-    assert!(offset_of!(Unit, mac) == 26);
-    assert!(offset_of!(Unit, wanted_flag) == 38);
-    assert!(offset_of!(Unit, held_flag) == 39);
-    assert!(offset_of!(Unit, failures) == 40);
-    assert!(offset_of!(Unit, clock_set) == 41);
-    assert!(offset_of!(Unit, floor) == 42);
-    assert!(offset_of!(Unit, panel) == 44);
-    assert!(offset_of!(Unit, inverter) == 48);
-    assert!(offset_of!(Unit, minutes) == 52);
-    assert!(offset_of!(Unit, clock) == 56);
-    assert!(offset_of!(Unit, command) == 60);
-    assert!(offset_of!(Unit, fixed_at) == 64);
-    assert!(offset_of!(Unit, update_at) == 72);
-    assert!(offset_of!(Unit, months) == 80);
-    assert!(offset_of!(Unit, free) == 112);
-    assert!(size_of::<Unit>() == 120);
-    assert!(offset_of!(Done, unit) == 0);
-    assert!(offset_of!(Done, cause) == 120);
-    assert!(size_of::<Done>() == 128);
-    assert!(size_of::<Number>() == 8);
-    assert!(size_of::<Written>() == 16);
-    assert!(size_of::<DueAnswer>() == 12);
-    assert!(size_of::<CeilingAnswer>() == 16);
-    assert!(size_of::<FileAnswer>() == 36);
-    assert!(size_of::<ErrorAnswer>() == 24);
-};
+/// `jag_places`.
+#[repr(C)]
+#[derive(Clone, Copy, Debug, Default, PartialEq, Eq)]
+pub struct Places {
+    pub schedule: usize,
+    pub plant: usize,
+    pub start: usize,
+    pub rates: usize,
+    pub count: usize,
+    pub flag: usize,
+    pub checksum: usize,
+    pub next: usize,
+    pub cause: u32,
+}
 
 impl Unit {
     /// The months that have a block, and the number of that block.

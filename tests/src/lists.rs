@@ -38,6 +38,9 @@ fn run_list(random: &mut Random, index: &mut u64, counts: &mut Counts) -> Result
     } else {
         Pair::install(&Installing::some(random))?
     };
+    if !pair.machine.schedule.hollow.is_empty() {
+        counts.branches.add("made up: a month held without a rate");
+    }
     counts.shapes.add(calls.words());
     let length = random.between(20, 180);
     while *index < length {

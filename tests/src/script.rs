@@ -2,11 +2,14 @@
 //! prints.
 
 use crate::call::{Answer, Call, Due};
-use crate::generate::Random;
+use crate::generate::{outputs, Random};
+use crate::reference::request::request;
 use crate::reference::Machine;
 
 /// 'A line up to 65,536 bytes without its 0A is read.'
 pub const LINE_MAX: usize = 65_536;
+/// The bytes of a request.
+const REQUEST_LENGTH: usize = 84;
 
 /// Hex digits of either case.
 fn hex(bytes: &[u8], random: &mut Random) -> String {
@@ -57,12 +60,13 @@ pub fn call_line(call: &Call, random: &mut Random) -> Vec<u8> {
     }
 }
 
-/// The line of installing: a plain ID is written with its digits' characters.
+/// The line of installing: a plain ID is written with its digits' characters,
+/// one that has no such form as `hex:`.
 pub fn install_line(id: &[u8], mac: &[u8], settings: [u64; 3], random: &mut Random) -> Vec<u8> {
-    let digits: Vec<u8> = id.iter().map(|digit| b'0' + digit).collect();
-    let id = match random.once_in(4) {
-        true => word(id, random),
-        false => digits,
+    let plain = !id.is_empty() && id.iter().all(|digit| *digit <= 9);
+    let id = match plain && !random.once_in(4) {
+        true => id.iter().map(|digit| b'0' + digit).collect(),
+        false => format!("hex:{}", hex(id, random)).into_bytes(),
     };
     let numbers = settings.map(|number| number.to_string());
     joined(&[
@@ -74,6 +78,33 @@ pub fn install_line(id: &[u8], mac: &[u8], settings: [u64; 3], random: &mut Rand
         numbers[2].as_bytes(),
     ])
 }
+
+/// The line of a request, and what it must be answered with.
+pub fn request_lines(id: &[u8], mac: &[u8], random: &mut Random) -> (Vec<u8>, String) {
+    let (_, _, segment, _, _) = outputs::request(random);
+    let line = joined(&[b"request", &word(&segment, random)]);
+    let answer = match request(id, mac, &segment, REQUEST_LENGTH) {
+        Ok(bytes) => String::from_utf8(bytes).expect("ASCII"),
+        Err(cause) => format!("refused {cause}"),
+    };
+    (line, answer)
+}
+
+/// Lines that are no call.
+pub const NO_CALLS: [&[u8]; 12] = [
+    b"nothing",
+    b"tick",
+    b"tick ",
+    b"tick -1",
+    b"tick 18446744073709551616",
+    b"due now",
+    b" due",
+    b"take a",
+    b"take a 0",
+    b"failure both 0",
+    b"store 32769 0",
+    b"request ",
+];
 
 /// The line of an answer.
 pub fn answer_line(answer: Answer) -> String {

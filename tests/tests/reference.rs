@@ -144,6 +144,51 @@ fn messages_of_table_6_4() {
     assert_eq!(read_error_file(b"E2001 x"), Err(16));
 }
 
+/// Error files, requests and names in the order of the Rattle program
+/// `paper_test`; what it prints is what the reference makes of them.
+#[test]
+fn paper_test_prints_the_same() {
+    let mut printed = String::new();
+    let refused = |cause: u8| format!("refused {cause}\n");
+    let others: [&[u8]; 4] = [
+        b"E1003 ",
+        b"E0003 \xE9\x85",
+        b"E1001 \xE0\x80\xAF",
+        b"E2001 ",
+    ];
+    let messages = MESSAGES.iter().map(|(_, message)| message.as_bytes());
+    for file in messages.chain(others) {
+        printed += &match read_error_file(file) {
+            Ok((code, text)) => format!("{code} {}\n", String::from_utf8_lossy(text)),
+            Err(cause) => refused(cause),
+        };
+    }
+    let sent: [(&[u8], &[u8]); 4] = [
+        (b"012389ABCDEF", b"9990"),
+        (b"012389ABCDEF", b"0000"),
+        (b"012389ABCDEF", b"8888"),
+        (b"01-23-89-ab-cd-ef", b"9990"),
+    ];
+    for (mac, segment) in sent {
+        printed += &match request(&PLANT_X, mac, segment, 84) {
+            Ok(bytes) => format!("{}\n", String::from_utf8_lossy(&bytes)),
+            Err(cause) => refused(cause),
+        };
+    }
+    for text in [
+        "201_9990_12345678901234567890123455_20180505100520.data",
+        "201_9990_02000000020000002000010003_20180121170011.data",
+        "ERR_9990_12345678901234567890123455_20180505100520.data",
+    ] {
+        let bytes = text.as_bytes();
+        if let Ok(name) = name::read_name(bytes) {
+            printed += &format!("{} {} ", name.format, name.segment_value);
+        }
+        printed += &refused(read(None, bytes, b"").expect_err("no body"));
+    }
+    assert_eq!(printed, include_str!("../../crates/paper_test/stdout"));
+}
+
 #[test]
 fn request_bytes() {
     let made = request(&PLANT_X, b"012389ABCDEF", b"9990", 84).expect("valid values");

@@ -49,7 +49,7 @@ same-months (suc k) p = go (isFree p k) (same-months k p)
     go true e = e
     go false e = ap (λ (l : List ℕ). monthOf p k ∷ l) e
 
-few-months : (k : ℕ) (p : Pool) → length (monthsBelow k p) ≤ k
+pub few-months : (k : ℕ) (p : Pool) → length (monthsBelow k p) ≤ k
 unfolding monthsBelow
 few-months zero p = omega arith
 few-months (suc k) p = go (isFree p k) (few-months k p)
@@ -90,14 +90,14 @@ module _ (u : Unit) (good : isSound u ≡ true) where
               let z : _≡_ {A = ℕ} 0 1 = cc in
               omega arith
 
-  held-count : countBelow 1200 (holdsMonth u) ≡ length (heldMonths (u .pool))
+  pub held-count : countBelow 1200 (holdsMonth u) ≡ length (heldMonths (u .pool))
   held-count =
       count-same 1200 (holdsMonth u) (λ m. member m (heldMonths (u .pool))) (λ m l. ap (member m) (same-months 16 (u .pool)))
       ∙ count-list 1200 (heldMonths (u .pool)) (months-once (u .pool) (u .floor) 16 (omega arith) facts)
       (λ m d. let h = months-held (u .pool) m .0 d in omega (arith, facts .high m (h .0) (h .1)))
 
   -- the months together are those held and those that have no block yet
-  together-is : (f : File) → GoodFile f
+  pub together-is : (f : File) → GoodFile f
       → together u f ≡ countBelow 1200 (holdsMonth u) + missing (u .pool) (u .floor) (runStart (recordsIn (f .body))) (runLength (recordsIn (f .body)))
   unfolding together missing
   together-is f g =

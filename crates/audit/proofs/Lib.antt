@@ -10,7 +10,13 @@ pub mod EveryList
 pub mod Ahead
 pub mod Ticks
 pub mod Acceptance
+pub mod Full
 pub mod Refusals
+pub mod Installed
 pub mod Sentences
+pub mod Moves
+pub mod Apart
 pub mod Lists
+pub mod Exports
 pub mod FromC
+pub mod ApartFromC

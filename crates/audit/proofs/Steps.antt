@@ -10,18 +10,20 @@ use borrow.Author.Tests.{eq-eqb, ne-eqb, ltb-true}
 use Rattle.rules.specs.Plant.{lastDigit}
 use Rattle.rules.specs.Calendar.{endOfTime, slotCount}
 use Rattle.rules.specs.Store.{storeLength, soundStore, soundClock, blockCount}
-use Rattle.rules.specs.Causes.{Reply, ofCeiling}
+use Rattle.rules.specs.Causes.{Reply, ofDue, ofCeiling}
 use Rattle.rules.specs.Machine.{Machine, Told, tick, clockLost, failure, due, ceilingOf, command, freeBlocks, heldCount, isStatus, failed, lostClock, withRequests, ceilingReply, step as machineStep, Step as MachineStep}
+use Rattle.rules.specs.declared.Due.{Due}
 use Rattle.rules.specs.declared.Kind.{Kind}
 use Rattle.plant.specs.Plant.{validPlant, settingsOf}
 use Rattle.plant.specs.declared.Plant.{Plant}
 use Rattle.pool.specs.Below.{sumBelow}
 use Rattle.pool.specs.Blocks.{freeCount}
 use Rattle.pool.specs.Held.{heldOf}
-use Rattle.requests.specs.Requests.{requestsOf}
+use Rattle.requests.specs.Requests.{requestsOf, requestsFrom}
+use Rattle.requests.proofs.DueLaws.{due-as-machine}
 use Rattle.agreement.specs.Agrees.{Agrees}
 use Rattle.agreement.proofs.Laws.{same-agrees, store-sound, rate-agrees, free-agrees}
-use Rattle.unit.specs.Values.{clockOf, isSound, requestsFrom, freshPool}
+use Rattle.unit.specs.Values.{clockOf, isSound, freshPool}
 use Rattle.unit.specs.Rows.{isUnset}
 use Rattle.unit.specs.Calls.{lost, ceilingAnswer}
 use Rattle.unit.specs.Step.{State, Step, stepDone, step}
@@ -122,10 +124,10 @@ module _ (p : Plant) (valid : validPlant p ≡ true) (n : ℕ) where
       where
         go : (c : Clock) → u .clock ≡ c → Sim p n (step due s) (machineStep w due M)
         go Unset e =
-            sim-by p n _ _ _ _ (ap (λ (r : Reply). (r, s)) (due-unset u good e)) (machine.due-unset w M (clock-none e)) (refl, h)
+            sim-by p n _ _ _ _ (ap (λ (a : Due). (ofDue a, s)) (due-unset u good e)) (machine.due-unset w M (clock-none e)) (refl, h)
         go (At t) e =
             sim-by p n _ _ _ _
-            (ap (λ (r : Reply). (r, s)) (due-done u good t e (lastDigit (p .id)) digit-same ∙ ap (λ q. Rattle.rules.specs.Machine.dueOf (lastDigit (p .id)) t q) (h .requests)))
+            (ap (λ (r : Reply). (r, s)) (ap ofDue (due-done u good t e (lastDigit (p .id)) digit-same) ∙ due-as-machine _ t _ ∙ ap (λ q. Rattle.rules.specs.Machine.dueOf (lastDigit (p .id)) t q) (h .requests)))
             (machine.due-set w M t (clock-some t e)) (refl, h)
 
     -- ---- failure reported

@@ -1,7 +1,12 @@
 pub mod Theorem
 pub mod Ticks
 pub mod Acceptance
+pub mod Full
 pub mod Refusals
+pub mod Installed
 pub mod Sentences
+pub mod Apart
 pub mod Lists
+pub mod Exports
 pub mod FromC
+pub mod ApartFromC

@@ -6,10 +6,12 @@ use mathlib.Core.Bool.{cond}
 use mathlib.Core.List.{List, [], _∷_}
 use lib.Dec.{eqb}
 use Rattle.rules.specs.Causes.{Reply, accepted, refused, ceiling, update, fixed, nothing, parts, blocks}
+use Rattle.rules.specs.Plant.{Settings}
 use Rattle.rules.specs.Machine.{Call, tick, clockLost, fileTaken, failure, due, ceilingOf, command, freeBlocks}
-use Rattle.unit.specs.Calls.{tickOf, lostOf, takeOf, storeAfterTake, failureOf, dueReply, ceilingOf as ceilingAt, commandOf, freeOf}
+use Rattle.unit.specs.Calls.{tickOf, lostOf, takeOf, storeAfterTake, failureOf, dueOf, ceilingOf as ceilingAt, commandOf, freeOf}
 use Rattle.unit.specs.Step.{State, replies, after}
-use Rattle.held.specs.Held.{opened, shutOf, handed}
+use Rattle.unit.specs.Values.{installedUnit}
+use Rattle.held.specs.Held.{opened, shutOf, handed, newly}
 use Rattle.held.specs.Answers.{dueNumbers, ceilingNumbers, commandNumber, blocksNumber}
 use Rattle.held.specs.declared.structs.HeldUnit.{HeldUnit}
 use Rattle.held.specs.declared.structs.Handed.{Handed}
@@ -54,7 +56,7 @@ heldStep clockLost s = handedStep (handed (s .unit) (lostOf (opened (s .unit))))
 heldStep (fileTaken name body) s =
     handedStep (handed (s .unit) (takeOf (opened (s .unit)) (s .store) name body)) (storeAfterTake (opened (s .unit)) (s .store) name body)
 heldStep (failure kind status) s = handedStep (handed (s .unit) (failureOf (opened (s .unit)) kind status)) (s .store)
-heldStep due s = (dueMeans (dueNumbers (dueReply (opened (s .unit)))), s)
+heldStep due s = (dueMeans (dueNumbers (dueOf (opened (s .unit)))), s)
 heldStep (ceilingOf slot) s = (ceilingMeans (ceilingNumbers (ceilingAt (opened (s .unit)) (s .store) slot)), s)
 heldStep command s = (commandMeans (commandNumber (commandOf (opened (s .unit)))), s)
 heldStep freeBlocks s = (blocksMeans (blocksNumber (freeOf (opened (s .unit)))), s)
@@ -67,11 +69,15 @@ unfoldable pub heldAfter : List Call → HeldState → HeldState
 heldAfter [] s = s
 heldAfter (c ∷ cs) s = heldAfter cs (heldStep c s .1)
 
+-- what installing hands out
+abbrev pub heldInstall : List ℕ → List ℕ → Settings → Handed
+heldInstall id mac set = newly (installedUnit id mac set)
+
 -- the struct of a unit, with its store
-abbrev pub heldOf : State → HeldState
-heldOf s = record { unit = shutOf (s .unit); store = s .store }
+abbrev pub shutState : State → HeldState
+shutState s = record { unit = shutOf (s .unit); store = s .store }
 
 abbrev pub SameFromC : Type 0
 SameFromC =
     (cs : List Call) (s : State)
-    → (heldReplies cs (heldOf s) ≡ replies cs s) × (heldAfter cs (heldOf s) ≡ heldOf (after cs s))
+    → (heldReplies cs (shutState s) ≡ replies cs s) × (heldAfter cs (shutState s) ≡ shutState (after cs s))

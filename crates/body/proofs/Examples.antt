@@ -10,8 +10,9 @@ use Rattle.rules.specs.File.{updateDates, datesHold, ratesHold, sum, checksumOf
 use Rattle.rules.specs.Lister.{totalRates}
 use Rattle.rules.specs.declared.Cause.{Cause}
 use Rattle.rules.specs.declared.Format.the-variants.{F203}
-use Rattle.body.specs.Reading.{nameOf, summaryOf, readingOf}
-use Rattle.body.specs.declared.Reading.the-variants.{Read, Refused}
+use Rattle.rules.specs.Reading.{summaryOf, readingOf}
+use Rattle.body.specs.Reading.{nameOf}
+use Rattle.rules.specs.declared.Reading.the-variants.{Read, Refused}
 
 plant : List ℕ
 plant = decimal 26 12345678901234567890123455

@@ -21,8 +21,9 @@ use Rattle.rules.specs.declared.Format.the-variants.{F201, F202, F203, F301}
 use Rattle.calendar.specs.Moments.{momentOf}
 use Rattle.calendar.specs.declared.dates.Moment.the-variants.{At, Missing}
 use Rattle.body.specs.Walk.{shaped, recordsFrom, Whole, orZero, accessAt}
-use Rattle.body.specs.Reading.{nameOf, scheduleFile, firstStart, accessOf, summaryOf}
-use Rattle.body.specs.declared.Summary.{Summary}
+use Rattle.rules.specs.Reading.{firstStart, accessOf, summaryOf}
+use Rattle.body.specs.Reading.{nameOf, scheduleFile}
+use Rattle.rules.specs.declared.Summary.{Summary}
 use Rattle.body.proofs.Parts.{both, part-to}
 use Rattle.body.proofs.Walk.{count-positive, count-bound, whole, whole-start, records-step}
 use Rattle.dates.proofs.Starts.{begins-half, is-start, start-some, moment-some}

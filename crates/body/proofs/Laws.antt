@@ -18,9 +18,10 @@ use Rattle.rules.specs.Lister.{totalRates}
 use Rattle.rules.specs.declared.Format.{Format}
 use Rattle.calendar.proofs.Laws.{first-slot-step}
 use Rattle.body.specs.Walk.{shaped, recordsFrom, recordStart, Whole, holds}
-use Rattle.body.specs.Reading.{nameOf, scheduleFile, summaryOf, readingOf}
-use Rattle.body.specs.declared.Summary.{Summary}
-use Rattle.body.specs.declared.Reading.the-variants.{Read}
+use Rattle.rules.specs.Reading.{summaryOf, readingOf}
+use Rattle.body.specs.Reading.{nameOf, scheduleFile}
+use Rattle.rules.specs.declared.Summary.{Summary}
+use Rattle.rules.specs.declared.Reading.the-variants.{Read}
 use Rattle.body.specs.declared.stages.Stage.the-variants.{Rates, Checksums, Plants}
 use Rattle.body.proofs.Parts.{both}
 use Rattle.body.proofs.Walk.{whole}
@@ -65,10 +66,11 @@ module _ (f : Format) (body : List ℕ) (e : shaped f (countOf f) (drop 6 body) 
   pub record-is : getElem? (recordsFrom f (countOf f) (drop 6 body)) k ≡ some (recordAt f (drop (recordStart f body k) body))
   record-is = record-here f (countOf f) k (drop 6 body) h ∙ ap (λ (t : List ℕ). some (recordAt f t)) (rest-is-drop f body k)
 
+  pub record-shape : recordShape f (drop (recordStart f body k) body) ≡ true
+  record-shape = rw (rest-is-drop f body k) at (shape-here f (countOf f) k (drop 6 body) h e)
+
   pub record-whole : Whole f (drop (recordStart f body k) body)
-  record-whole =
-      whole f (drop (recordStart f body k) body)
-      (rw (rest-is-drop f body k) at (shape-here f (countOf f) k (drop 6 body) h e))
+  record-whole = whole f (drop (recordStart f body k) body) record-shape
 
   -- its rates are the bytes from its place 53 on
   pub rates-are : recordAt f (drop (recordStart f body k) body) .rates ≡ part body (recordStart f body k + 53) (ratesOf (drop (recordStart f body k) body))

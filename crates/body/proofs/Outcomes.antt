@@ -17,10 +17,11 @@ use Rattle.rules.specs.declared.Cause.{Cause}
 use Rattle.rules.specs.declared.Format.{Format}
 use Rattle.rules.specs.declared.Format.the-variants.{F201, F202, F203, F301}
 use Rattle.body.specs.Walk.{shaped, recordsFrom, holds, registered}
-use Rattle.body.specs.Reading.{nameOf, scheduleFile, summaryOf, readingOf}
-use Rattle.body.specs.declared.Summary.{Summary}
-use Rattle.body.specs.declared.Reading.{Reading}
-use Rattle.body.specs.declared.Reading.the-variants.{Read, Refused}
+use Rattle.rules.specs.Reading.{summaryOf, readingOf}
+use Rattle.body.specs.Reading.{nameOf, scheduleFile}
+use Rattle.rules.specs.declared.Summary.{Summary}
+use Rattle.rules.specs.declared.Reading.{Reading}
+use Rattle.rules.specs.declared.Reading.the-variants.{Read, Refused}
 use Rattle.body.specs.declared.stages.Stage.the-variants.{Rates, Checksums, Plants}
 use Rattle.digits.proofs.Scan.{part-rest}
 use Rattle.body.proofs.Parts.{both}

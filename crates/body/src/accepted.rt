@@ -8,10 +8,10 @@ ghost use Rattle.rules.specs.Digits.{part};
 ghost use Rattle.rules.specs.Calendar.{moment, startSlot};
 ghost use Rattle.rules.specs.Body.{countOf, recordAt, isSchedule};
 ghost use Rattle.rules.specs.File.{flagOf, recordDates};
+ghost use Rattle.rules.specs.Reading.{summaryOf};
 ghost use Rattle.rules.specs.declared.Format.the-variants.{F203};
 ghost use Rattle.body.specs.Walk.{shaped, recordsFrom, Whole, orZero, accessAt};
-ghost use Rattle.body.specs.Reading.{nameOf, scheduleFile, summaryOf};
-use crate::Summary;
+ghost use Rattle.body.specs.Reading.{nameOf, scheduleFile};
 use crate::places::CHECKSUM_DIGITS;
 use crate::places::NEXT_DIGITS;
 use crate::places::RATE_COUNT;
@@ -22,6 +22,7 @@ use crate::places::rate_count;
 use crate::places::record_count;
 use calendar::Moment;
 use rules::Format;
+use rules::Summary;
 
 // A segment has 4 digits.
 pub const SEGMENTS: u16 = 10000;

@@ -9,28 +9,20 @@ ghost use mathlib.Core.Path.{_≡_};
 ghost use mathlib.Core.Bool.{true};
 ghost use Rattle.rules.specs.Body.{parseRest, parseBody, isSchedule};
 ghost use Rattle.rules.specs.File.{withBody};
+ghost use Rattle.rules.specs.Reading.{readingOf};
 ghost use Rattle.rules.specs.declared.Format.the-variants.{F301};
-ghost use Rattle.body.specs.Reading.{nameOf, readingOf};
+ghost use Rattle.body.specs.Reading.{nameOf};
 use crate::stages::Stage;
+pub use form::count_holds;
+pub use form::records_stand;
+pub use places::fixed_bytes;
+pub use places::is_schedule;
+pub use places::record_count;
+pub use places::tail_digits;
 use rules::Cause;
 use rules::Format;
-
-// What a unit or a lister needs of an accepted file.
-pub struct Summary {
-    pub format: Format,
-    pub segment: u16,
-    pub records: u32,
-    pub rates: u32,
-    pub start: u32,
-    pub flag: u8,
-    pub next_access: u32,
-    pub result: u8,
-}
-
-pub enum Reading {
-    Read(Summary),
-    Refused(Cause),
-}
+use rules::Reading;
+use rules::Summary;
 
 // The records of a schedule, under a name with that format, segment and plant.
 fn read_schedule(format: Format, segment: u16, plant: &[u8], s: &[u8]) -> Reading

@@ -12,12 +12,12 @@ use mir.Val.{Fits}
 use lib.Dec.{lit≤}
 use lib.ListN.{length, set, getD, take, replicate}
 use lib.Seq.{paste-suc, take-at}
-use Rattle.rules.specs.Causes.{numberOf}
+use Rattle.rules.specs.Causes.{numberOf, ofSummary}
 use Rattle.rules.specs.Name.{formatNumber}
 use Rattle.rules.specs.Plant.{Settings, installing}
 use Rattle.rules.specs.declared.Answer.{Answer}
 use Rattle.rules.specs.declared.Cause.{Cause}
-use Rattle.body.specs.declared.Summary.{Summary}
+use Rattle.rules.specs.declared.Summary.{Summary}
 use Rattle.listing.specs.Line.{room, lineIn}
 use Rattle.listing.specs.declared.Line.{Line}
 use Rattle.plant.specs.Plant.{installed}
@@ -49,11 +49,11 @@ refused-fits n c e = omega (arith, number-most c)
 -- ---- the eight words
 
 module _ (s : Summary) (out : List ℕ) where
-  pub words-short : length out < 8 → out ≡ putWords s out
+  pub words-short : length out < 8 → out ≡ putWords (ofSummary s) out
   unfolding putWords
   words-short h = rw (lt-leb 8 (length out) h) refl
 
-  pub words-put : (format : ℕ) → format ≡ formatNumber (s .format) → 8 ≤ length out → set (set (set (set (set (set (set (set out 0 format) 1 (s .segment)) 2 (s .records)) 3 (s .rates)) 4 (s .start)) 5 (s .flag)) 6 (s .«next_access»)) 7 (s .result) ≡ putWords s out
+  pub words-put : (format : ℕ) → format ≡ formatNumber (s .format) → 8 ≤ length out → set (set (set (set (set (set (set (set out 0 format) 1 (s .segment)) 2 (s .records)) 3 (s .rates)) 4 (s .start)) 5 (s .flag)) 6 (s .«next_access»)) 7 (s .result) ≡ putWords (ofSummary s) out
   unfolding putWords
   words-put format e h = rw (le-leb 8 (length out) h, e) refl
 

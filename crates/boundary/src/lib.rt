@@ -4,24 +4,24 @@ ghost use mathlib.Core.Option.{none, some};
 ghost use Prim.Native.Nat.{min};
 ghost use lib.ListN.{length};
 ghost use Rattle.rules.specs.Calendar.{daysOfMonth, firstSlot, monthOfSlot, moment, startSlot};
-ghost use Rattle.rules.specs.ErrorFile.{errorCode, errorText};
+ghost use Rattle.rules.specs.Causes.{ofSummary};
+ghost use Rattle.rules.specs.ErrorFile.{errorCode, codeOf, errorText};
 ghost use Rattle.rules.specs.File.{readFile};
 ghost use Rattle.rules.specs.Lister.{line};
 ghost use Rattle.rules.specs.Plant.{percent, installing};
+ghost use Rattle.rules.specs.Reading.{readingOf};
 ghost use Rattle.rules.specs.Request.{request};
 ghost use Rattle.rules.specs.Writer.{writeBody, writtenOf, bufferAfter};
-ghost use Rattle.body.specs.Reading.{readingOf};
 ghost use Rattle.calendar.specs.Moments.{momentOf};
-ghost use Rattle.error_file.specs.Code.{codeOf};
 ghost use Rattle.plant.specs.Plant.{settings};
 ghost use Rattle.writer.specs.Fields.{fieldsOf};
 ghost use Rattle.boundary.specs.Numbers.{answerNumber, readNumber, readWords, putWords, momentNumber, writtenNumber, codeNumber, copied};
-use body::Reading;
-use body::Summary;
 use calendar::Moment;
-use error_file::ErrorCode;
 use plant::Plant;
 use rules::Answer;
+use rules::ErrorCode;
+use rules::Reading;
+use rules::Summary;
 use rules::Written;
 
 // Added to a cause's number where the answer may be another number too.
@@ -32,7 +32,7 @@ const MISSING: u64 = 18446744073709551615;
 
 // What was read of a file, in the first eight places.
 fn put_words(s: Summary, out: &mut [u32])
-    ensures { λ _. ⌜ now (out .exit) ≡ putWords s (now (out .entry)) ⌝ }
+    ensures { λ _. ⌜ now (out .exit) ≡ putWords (ofSummary s) (now (out .entry)) ⌝ }
 {
     if out.len() < 8 {
         return;

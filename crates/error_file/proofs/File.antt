@@ -8,11 +8,11 @@ use native.Mathlib.Omega.{arith}
 use lib.ListN.{length, getD, take, drop, length-drop}
 use lib.Seq.{take-all}
 use borrow.Author.Tests.{le-leb, lt-leb, leb-true}
-use Rattle.rules.specs.ErrorFile.{isErrorFile, utf8, errorCode, errorText}
+use Rattle.rules.specs.ErrorFile.{isErrorFile, utf8, errorCode, codeOf, errorText}
 use Rattle.rules.specs.declared.Cause.{Cause}
 use Rattle.error_file.specs.Head.{hasHead, Headed}
-use Rattle.error_file.specs.Code.{codeIn, codeOf}
-use Rattle.error_file.specs.declared.ErrorCode.{ErrorCode}
+use Rattle.error_file.specs.Code.{codeIn}
+use Rattle.rules.specs.declared.ErrorCode.{ErrorCode}
 use Rattle.error_file.proofs.Head.{three, both, is-digit, zero-or-one}
 
 module _ (s : List ℕ) where

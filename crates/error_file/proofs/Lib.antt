@@ -2,3 +2,4 @@
 pub mod Text
 pub mod Head
 pub mod File
+pub mod Told

@@ -2,3 +2,4 @@
 pub mod Walk
 pub mod Head
 pub mod Code
+pub mod Told

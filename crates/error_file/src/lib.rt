@@ -2,10 +2,11 @@
 ghost use mathlib.Core.Path.{_≡_};
 ghost use Prim.Native.Nat.{_-_, _≤_};
 ghost use lib.ListN.{length};
-ghost use Rattle.rules.specs.ErrorFile.{isErrorFile, errorCode, errorText};
+ghost use Rattle.rules.specs.ErrorFile.{isErrorFile, errorCode, codeOf, errorText};
 ghost use Rattle.error_file.specs.Head.{asciiDigit, Digit, hasHead, Headed};
-ghost use Rattle.error_file.specs.Code.{codeIn, codeOf};
+ghost use Rattle.error_file.specs.Code.{codeIn};
 use rules::Cause;
+use rules::ErrorCode;
 
 mod utf8;
 
@@ -14,12 +15,6 @@ const HEAD_LENGTH: usize = 6;
 
 // 'then 0 to 384 bytes'.
 const MOST_TEXT: usize = 384;
-
-// The four digits after the `E` as a number, or the cause of the refusal.
-pub enum ErrorCode {
-    Code(u16),
-    Refused(Cause),
-}
 
 // Whether x is `0` to `9`.
 fn is_ascii_digit(x: u8) -> bool

@@ -6,6 +6,7 @@ pub mod Body
 pub mod Name
 pub mod Reading
 pub mod Refusals
+pub mod ReadRefusals
 pub mod Calendar
 pub mod MonthStart
 pub mod Months

@@ -158,7 +158,7 @@ placed Cause.Full = (refl, lit< tt, lit≤ tt)
 placed Cause.Buffer = (refl, lit< tt, lit≤ tt)
 placed Cause.ErrorFile = (refl, lit< tt, lit≤ tt)
 
-same-cause : (c d : Cause) → numberOf c ≡ numberOf d → c ≡ d
+pub same-cause : (c d : Cause) → numberOf c ≡ numberOf d → c ≡ d
 same-cause c d e = sym (placed c .0) ∙ ap (λ (n : ℕ). getD table (n - 1) Cause.PlantId) e ∙ placed d .0
 
 -- the causes of the list have the numbers from k to 16

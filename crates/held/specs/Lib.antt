@@ -1,3 +1,4 @@
 pub mod Held
 pub mod Answers
 pub mod Handing
+pub mod Places

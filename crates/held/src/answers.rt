@@ -1,12 +1,11 @@
 // The answers of questions, of reading and of writing, as C gets them: 0 or a cause's number, and numbers that are 0 where it is refused.
 ghost use mathlib.Core.Path.{_≡_};
-ghost use Rattle.rules.specs.Causes.{ofDue};
 ghost use Rattle.held.specs.Answers.{dueNumbers, ceilingNumbers, commandNumber, blocksNumber, writtenNumbers, noFile, fileNumbers};
-use body::Reading;
 use rules::Ceiling;
 use rules::Command;
 use rules::Due;
 use rules::FreeBlocks;
+use rules::Reading;
 use rules::Written;
 
 #[repr(C)]
@@ -59,7 +58,7 @@ pub struct ErrorAnswer {
 }
 
 pub fn due_answer(due: Due) -> DueAnswer
-    ensures { λ r. ⌜ r ≡ dueNumbers (ofDue due) ⌝ }
+    ensures { λ r. ⌜ r ≡ dueNumbers due ⌝ }
 {
     match due {
         Due::Update => DueAnswer {

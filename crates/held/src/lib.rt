@@ -1,5 +1,6 @@
 // The unit and the answers as C gets them: structs of fixed layout, the unit that one stands for, and what a call hands back.
 mod answers;
+mod places;
 mod structs;
 
 pub use answers::CeilingAnswer;
@@ -14,6 +15,8 @@ pub use answers::command_number;
 pub use answers::due_answer;
 pub use answers::file_answer;
 pub use answers::written_bytes;
+pub use places::RecordPlaces;
+pub use places::record_places;
 pub use structs::Handed;
 pub use structs::HeldUnit;
 pub use structs::hand;

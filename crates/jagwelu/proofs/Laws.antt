@@ -1,4 +1,4 @@
--- The number of a check, and the text's length in an error file. Assumes nothing.
+-- The number of a check, the answers to questions, and the text's length in an error file. Assumes nothing.
 use Prim.Native.Nat.{ℕ, _-_, _≤_}
 use mathlib.Core.Path.{_≡_, refl, sym, ap, ap₂, _∙_}
 use mathlib.Core.Bool.{Bool, true, false, not, _&&_}
@@ -7,17 +7,29 @@ use lib.ListN.{length, length-drop}
 use borrow.Author.Tests.{eq-eqb, ne-eqb}
 use Rattle.rules.specs.Causes.{numberOf}
 use Rattle.rules.specs.declared.Cause.{Cause}
-use Rattle.rules.specs.ErrorFile.{isErrorFile, errorCode, errorText}
+use Rattle.rules.specs.ErrorFile.{isErrorFile, errorCode, codeOf, errorText}
 use Rattle.rules.specs.Store.{storeLength}
-use Rattle.error_file.specs.Code.{codeOf}
-use Rattle.error_file.specs.declared.ErrorCode.{ErrorCode}
+use Rattle.rules.specs.declared.ErrorCode.{ErrorCode}
 use Rattle.error_file.proofs.File.{headed}
 use Rattle.schedule.specs.Stored.{storeHolds}
+use Rattle.rules.specs.Writer.{writtenOf}
+use Rattle.unit.specs.Asked.{dueAsked, ceilingAsked, commandAsked, freeAsked, requestAsked}
+use Rattle.unit.specs.Calls.{dueOf, ceilingOf, commandOf, freeOf}
+use Rattle.unit.specs.Request.{requestOf}
 use Rattle.unit.specs.Rows.{firstOf}
 use Rattle.unit.specs.Values.{isSound}
 use Rattle.unit.specs.declared.Unit.{Unit}
+use Rattle.unit.specs.declared.DueAsked.{DueAsked}
+use Rattle.unit.specs.declared.CeilingAsked.{CeilingAsked}
+use Rattle.unit.specs.declared.CommandAsked.{CommandAsked}
+use Rattle.unit.specs.declared.FreeAsked.{FreeAsked}
+use Rattle.unit.specs.declared.RequestAsked.{RequestAsked}
 use Rattle.unit.proofs.LentLaws.{lent-row}
-use Rattle.held.specs.Answers.{errorNumbers}
+use Rattle.held.specs.Answers.{dueNumbers, ceilingNumbers, commandNumber, blocksNumber, writtenNumbers, errorNumbers}
+use Rattle.held.specs.declared.answers.Number.{Number}
+use Rattle.held.specs.declared.answers.WrittenBytes.{WrittenBytes}
+use Rattle.held.specs.declared.answers.DueAnswer.{DueAnswer}
+use Rattle.held.specs.declared.answers.CeilingAnswer.{CeilingAnswer}
 use Rattle.jagwelu.specs.Check.{checkNumber}
 
 module _ (u : Unit) (store : List ℕ) where
@@ -37,6 +49,28 @@ module _ (u : Unit) (store : List ℕ) where
     pub check-bad : (a && b) ≡ false → 4 ≡ checkNumber u store
     unfolding checkNumber firstOf
     check-bad bad = rw (eq-eqb (length store) storeLength long, lent-row u store false long (tested false bad)) refl
+
+-- ---- the questions: what is handed out is the answer of the unit that was opened
+
+module _ (u v : Unit) (same : v ≡ u) where
+  pub due-said : (x : DueAsked) (n : DueAnswer) → x ≡ dueAsked v → n ≡ dueNumbers (x .answer) → n ≡ dueNumbers (dueOf u)
+  due-said x n e k = k ∙ ap (λ (y : DueAsked). dueNumbers (y .answer)) (e ∙ ap dueAsked same)
+
+  pub ceiling-said : (store : List ℕ) (slot : ℕ) (x : CeilingAsked) (n : CeilingAnswer) → x ≡ ceilingAsked v store slot → n ≡ ceilingNumbers (x .answer)
+      → n ≡ ceilingNumbers (ceilingOf u store slot)
+  ceiling-said store slot x n e k =
+      k ∙ ap (λ (y : CeilingAsked). ceilingNumbers (y .answer)) (e ∙ ap (λ (w : Unit). ceilingAsked w store slot) same)
+
+  pub command-said : (x : CommandAsked) (n : Number) → x ≡ commandAsked v → n ≡ commandNumber (x .answer) → n ≡ commandNumber (commandOf u)
+  command-said x n e k = k ∙ ap (λ (y : CommandAsked). commandNumber (y .answer)) (e ∙ ap commandAsked same)
+
+  pub free-said : (x : FreeAsked) (n : Number) → x ≡ freeAsked v → n ≡ blocksNumber (x .answer) → n ≡ blocksNumber (freeOf u)
+  free-said x n e k = k ∙ ap (λ (y : FreeAsked). blocksNumber (y .answer)) (e ∙ ap freeAsked same)
+
+  pub request-said : (segment : List ℕ) (room : ℕ) (x : RequestAsked) (n : WrittenBytes) → x ≡ requestAsked v segment room → n ≡ writtenNumbers (x .answer)
+      → n ≡ writtenNumbers (writtenOf (requestOf u segment room))
+  request-said segment room x n e k =
+      k ∙ ap (λ (y : RequestAsked). writtenNumbers (y .answer)) (e ∙ ap (λ (w : Unit). requestAsked w segment room) same)
 
 -- ---- the error file
 

@@ -1,22 +1,22 @@
 // What C calls (include/jagwelu.h): the unit's calls over a struct that C holds, and files read and written without a unit.
+mod bodies;
+
 ghost use mathlib.Core.Path.{_≡_};
-ghost use mathlib.Core.Option.{none};
+ghost use mathlib.Core.Option.{none, some};
 ghost use lib.ListN.{length};
-ghost use Rattle.rules.specs.ErrorFile.{errorCode};
+ghost use Rattle.rules.specs.ErrorFile.{errorCode, codeOf};
 ghost use Rattle.rules.specs.File.{readFile};
+ghost use Rattle.rules.specs.Reading.{readingOf};
 ghost use Rattle.rules.specs.Writer.{writeBody, writtenOf, bufferAfter};
 ghost use Rattle.rules.specs.declared.Kind.{Kind as KindOf};
-ghost use Rattle.body.specs.Reading.{readingOf};
-ghost use Rattle.error_file.specs.Code.{codeOf};
 ghost use Rattle.plant.specs.Plant.{settings};
-ghost use Rattle.unit.specs.Calls.{tickOf, lostOf, takeOf, storeAfterTake, failureOf, dueReply, ceilingOf, commandOf, freeOf};
+ghost use Rattle.unit.specs.Calls.{tickOf, lostOf, takeOf, storeAfterTake, failureOf, dueOf, ceilingOf, commandOf, freeOf};
 ghost use Rattle.unit.specs.Request.{requestOf};
 ghost use Rattle.unit.specs.Values.{installedUnit};
 ghost use Rattle.writer.specs.Fields.{fieldsOf};
 ghost use Rattle.held.specs.Held.{opened, handed, newly};
 ghost use Rattle.jagwelu.specs.Check.{checkNumber};
 ghost use Rattle.held.specs.Answers.{dueNumbers, ceilingNumbers, commandNumber, blocksNumber, writtenNumbers, fileNumbers, errorNumbers};
-use error_file::ErrorCode;
 use held::CeilingAnswer;
 use held::DueAnswer;
 use held::ErrorAnswer;
@@ -25,16 +25,13 @@ use held::Handed;
 use held::HeldUnit;
 use held::Number;
 use held::WrittenBytes;
+use rules::Cause;
+use rules::ErrorCode;
 use rules::Kind;
 use unit::Unit;
 
 // The bytes of an error file before its text.
 const TEXT_PLACE: usize = 6;
-
-// 3: 'store not 23,808 bytes'; 4: 'unit, or a lent store, not sound'.
-const STORE_LENGTH: u32 = 3;
-
-const UNSOUND: u32 = 4;
 
 #[no_mangle]
 pub extern "C" fn jag_install(
@@ -108,7 +105,7 @@ pub extern "C" fn jag_fixed_failed(unit: HeldUnit, status: u64) -> Handed
 
 #[no_mangle]
 pub extern "C" fn jag_due(unit: HeldUnit) -> DueAnswer
-    ensures { λ r. ⌜ r ≡ dueNumbers (dueReply (opened unit)) ⌝ }
+    ensures { λ r. ⌜ r ≡ dueNumbers (dueOf (opened unit)) ⌝ }
 {
     let opened = held::open(unit);
     let asked = opened.due();
@@ -121,7 +118,8 @@ pub extern "C" fn jag_ceiling(unit: HeldUnit, slot: u64, store: &[u8]) -> Ceilin
     ensures { λ r. ⌜ r ≡ ceilingNumbers (ceilingOf (opened unit) (now (store .entry)) slot) ⌝ }
 {
     let opened = held::open(unit);
-    let ceiling = opened.ceiling(slot, store);
+    let asked = opened.ceiling(slot, store);
+    let ceiling = asked.answer;
     held::ceiling_answer(ceiling)
 }
 
@@ -130,7 +128,8 @@ pub extern "C" fn jag_command(unit: HeldUnit) -> Number
     ensures { λ r. ⌜ r ≡ commandNumber (commandOf (opened unit)) ⌝ }
 {
     let opened = held::open(unit);
-    let command = opened.command();
+    let asked = opened.command();
+    let command = asked.answer;
     held::command_number(command)
 }
 
@@ -139,7 +138,8 @@ pub extern "C" fn jag_free_blocks(unit: HeldUnit) -> Number
     ensures { λ r. ⌜ r ≡ blocksNumber (freeOf (opened unit)) ⌝ }
 {
     let opened = held::open(unit);
-    let free = opened.free_blocks();
+    let asked = opened.free_blocks();
+    let free = asked.answer;
     held::blocks_number(free)
 }
 
@@ -148,14 +148,14 @@ pub extern "C" fn jag_check(unit: HeldUnit, store: &[u8]) -> u32
     ensures { λ r. ⌜ r ≡ checkNumber (opened unit) (now (store .entry)) ⌝ }
 {
     if store.len() != Unit::STORE_LENGTH {
-        return STORE_LENGTH;
+        return numbers::cause_number(Cause::StoreLength);
     }
     let opened = held::open(unit);
     let pool = opened.pool;
     if opened.sound() & schedule::store_holds(pool, store) {
         0
     } else {
-        UNSOUND
+        numbers::cause_number(Cause::Unsound)
     }
 }
 
@@ -165,7 +165,8 @@ pub extern "C" fn jag_request(unit: HeldUnit, segment: &[u8], out: &mut [u8]) ->
     ensures buffer { λ _. ⌜ now (out .exit) ≡ bufferAfter (requestOf (opened unit) (now (segment .entry)) (length (now (out .entry)))) (now (out .entry)) ⌝ }
 {
     let opened = held::open(unit);
-    let written = opened.request(segment, out);
+    let asked = opened.request(segment, out);
+    let written = asked.answer;
     held::written_bytes(written)
 }
 
@@ -174,6 +175,15 @@ pub extern "C" fn jag_read(name: &[u8], body: &[u8]) -> FileAnswer
     ensures { λ r. ⌜ r ≡ fileNumbers (readingOf (readFile none (now (name .entry)) (now (body .entry)))) ⌝ }
 {
     let reading = transfer::read(name, body);
+    held::file_answer(reading)
+}
+
+// For a plant whose ID is given: a file for another is refused with 8.
+#[no_mangle]
+pub extern "C" fn jag_read_for(plant: &[u8], name: &[u8], body: &[u8]) -> FileAnswer
+    ensures { λ r. ⌜ r ≡ fileNumbers (readingOf (readFile (some (now (plant .entry))) (now (name .entry)) (now (body .entry)))) ⌝ }
+{
+    let reading = transfer::read_for(plant, name, body);
     held::file_answer(reading)
 }
 

@@ -2,7 +2,7 @@
 use mathlib.Core.Path.{_≡_, refl}
 use Rattle.rules.specs.File.{Outcome, refuse, file}
 use Rattle.rules.specs.Lister.{lineOf}
-use Rattle.body.specs.Reading.{summaryOf, readingOf}
+use Rattle.rules.specs.Reading.{summaryOf, readingOf}
 use Rattle.listing.specs.Line.{okText, refusedText, textOf, Printable}
 use Rattle.listing.proofs.Short.{SmallFile}
 

@@ -3,10 +3,9 @@ use Prim.Native.Nat.{ℕ, _+_, _-_, _<_}
 use mathlib.Core.List.{List, [], _∷_, _++_}
 use lib.ListN.{length, replicate, set}
 use Rattle.rules.specs.Lister.{numeral}
-use Rattle.rules.specs.Name.{formatNumber}
-use Rattle.rules.specs.Causes.{numberOf}
-use Rattle.body.specs.declared.Reading.{Reading}
-use Rattle.body.specs.declared.Reading.the-variants.{Read, Refused}
+use Rattle.rules.specs.Causes.{Said, refusedBy, gives, FileValues, ofReading}
+use Rattle.rules.specs.declared.Reading.{Reading}
+use Rattle.rules.specs.declared.Reading.the-variants.{Read, Refused}
 use Rattle.listing.specs.declared.Line.{Line}
 
 -- as many bytes as a line has room for
@@ -34,9 +33,12 @@ unfoldable pub refusedText : ℕ → List ℕ
 refusedText number = 114 ∷ 101 ∷ 102 ∷ 117 ∷ 115 ∷ 101 ∷ 100 ∷ 32 ∷ (numeral number ++ (10 ∷ []))
 
 -- the text of what reading a file gave
+abbrev pub textBy : Said FileValues → List ℕ
+textBy (gives f) = okText (f .format) (f .records) (f .rates)
+textBy (refusedBy n) = refusedText n
+
 abbrev pub textOf : Reading → List ℕ
-textOf (Read f) = okText (formatNumber (f .format)) (f .records) (f .rates)
-textOf (Refused c) = refusedText (numberOf c)
+textOf r = textBy (ofReading r)
 
 -- a reading whose text fits a line: no file that reads well has 100 records or 100,000 rates
 abbrev pub Printable : Reading → Type 0

@@ -5,7 +5,7 @@ ghost use mathlib.Core.List.{[], _∷_, _++_};
 ghost use lib.ListN.{length};
 ghost use Rattle.rules.specs.Lister.{namePart, numeral, line};
 ghost use Rattle.listing.specs.Line.{room, lineIn, putIn, puts, okText, refusedText, textOf, Printable};
-use body::Reading;
+use rules::Reading;
 
 // As many bytes as a line has room for.
 const ROOM: usize = 20;

@@ -67,11 +67,3 @@ KeysOf p keys = (b : ℕ) → b < 16 → getD keys b 0 ≡ keyOf p b
 -- the used blocks' months are between floor and 1199, and no two are the same: each block has its key with itself alone
 unfoldable pub soundOf : Pool → ℕ → Bool
 soundOf p floor = allBelow 16 (inRange p floor) && leb (pairsBelow 16 (keyOf p)) 16
-
--- month m has its own block, or is given a free one
-abbrev pub holdBy : Pool → ℕ → Found → Taken
-holdBy p m (At b) = record { pool = p; place = In b }
-holdBy p m Nothing = takeOf p m
-
-unfoldable pub holdOf : Pool → ℕ → Taken
-holdOf p m = holdBy p m (findOf p m)

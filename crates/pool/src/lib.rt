@@ -4,7 +4,7 @@ ghost use lib.Dec.{eqb};
 ghost use lib.ListN.{getD};
 ghost use Rattle.pool.specs.Below.{tick, countBelow, allBelow, pairsBelow};
 ghost use Rattle.pool.specs.Held.{soundPool};
-ghost use Rattle.pool.specs.Blocks.{holds, freeCount, findOf, takeOf, holdOf, freeAfter, releaseOf, inRange, keyOf, KeysOf};
+ghost use Rattle.pool.specs.Blocks.{holds, freeCount, findOf, takeOf, freeAfter, releaseOf, inRange, keyOf, KeysOf};
 
 // Sixteen blocks: bit b of free is set where block b is free, and months[b] is the month of a used block b.
 pub struct Pool {
@@ -190,18 +190,5 @@ impl Pool {
         ensures { λ r. ⌜ r ≡ soundPool self floor ⌝ }
     {
         self.all_in_range(floor) & (pairs(self.keys()) <= 16)
-    }
-
-    // The month's own block, or a free one.
-    pub fn hold(self, month: u16) -> Taken
-        ensures { λ r. ⌜ r ≡ holdOf self month ⌝ }
-    {
-        match self.find(month) {
-            Found::At(b) => Taken {
-                pool: self,
-                place: Place::In(b),
-            },
-            Found::Nothing => self.take(month),
-        }
     }
 }

@@ -83,7 +83,9 @@ pub(crate) fn put_reply(reply: Reply, out: &mut [u8], at: usize) -> usize {
 // 'the 84 bytes as text'.
 pub(crate) fn put_request(unit: Unit, segment: &[u8], out: &mut [u8], at: usize) -> usize {
     let mut bytes = [0u8; REQUEST_LENGTH];
-    match unit.request(segment, &mut bytes) {
+    let asked = unit.request(segment, &mut bytes);
+    let written = asked.answer;
+    match written {
         Written::Length(_) => put_line(&bytes, out, at),
         Written::Refused(cause) => put_refusal(cause, out, at),
     }

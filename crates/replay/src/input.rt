@@ -4,6 +4,7 @@ ghost use Prim.Native.Nat.{_+_, _≤_, min};
 ghost use lib.ListN.{length};
 use crate::progress::Progress;
 use crate::stores::most_of;
+use libc::STDERR_FILENO;
 use libc::STDOUT_FILENO;
 
 const NEW_LINE: u8 = 10;
@@ -11,12 +12,14 @@ const NEW_LINE: u8 = 10;
 // As much of the output as an answer can take: a block's 1,488 bytes in hex and 0A are the longest, 2,977 bytes.
 const LONGEST_ANSWER: usize = 4096;
 
-// What was read: how much of the present line stands in the line's buffer, whether it is longer than that, and whether more input can come.
+// What was read: how much of the present line stands in the line's buffer, whether it is longer than that, whether more input can come, and
+// whether a read failed.
 pub(crate) struct Reader {
     pub progress: Progress,
     pub length: usize,
     pub over: bool,
     pub open: bool,
+    pub failed: bool,
 }
 
 impl Reader {
@@ -26,17 +29,19 @@ impl Reader {
             length: 0,
             over: false,
             open: true,
+            failed: false,
         }
     }
 
-    // The input has ended.
-    pub(crate) fn ended(self) -> Reader {
+    // No more input comes: it has ended, or a read failed.
+    pub(crate) fn ended(self, failed: bool) -> Reader {
         let progress = self.progress;
         Reader {
             progress,
             length: self.length,
             over: self.over,
             open: false,
+            failed,
         }
     }
 
@@ -48,6 +53,7 @@ impl Reader {
             length,
             over,
             open: self.open,
+            failed: self.failed,
         }
     }
 
@@ -58,6 +64,7 @@ impl Reader {
             length: 0,
             over: false,
             open: self.open,
+            failed: self.failed,
         }
     }
 
@@ -75,6 +82,7 @@ impl Reader {
             length: self.length,
             over: self.over,
             open: self.open,
+            failed: self.failed,
         }
     }
 }
@@ -155,8 +163,15 @@ pub(crate) fn feed(
     reader
 }
 
-// The last line, where it lacks its 0A.
+// The last line, where it lacks its 0A. After a read that failed what stands in the buffer may be a part of a line: it is not answered.
 pub(crate) fn last(was: Reader, line: &[u8], store: &mut [u8], out: &mut [u8]) -> Reader {
+    if was.failed {
+        io::write_all(
+            STDERR_FILENO,
+            b"replay: standard input could not be read to its end\n",
+        );
+        return was;
+    }
     if (0 < was.length) | was.over {
         return answer_line(was, line, store, out);
     }

@@ -17,7 +17,7 @@ fn turn(was: Reader, line: &mut [u8], store: &mut [u8], out: &mut [u8]) -> Reade
     let got = libc::read(STDIN_FILENO, &mut chunk);
     let count = io::count(got, &chunk);
     if count == 0 {
-        return was.ended();
+        return was.ended(got < 0);
     }
     let read = input::feed(was, &chunk[..count], line, store, out);
     read.flushed(out)

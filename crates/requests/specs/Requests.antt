@@ -1,4 +1,4 @@
--- The struct's fields as 01 names them.
+-- The struct's fields as 01 names them, and the struct of these values.
 use Rattle.rules.specs.Store.{Requests as Values}
 use Rattle.requests.specs.declared.Requests.{Requests}
 
@@ -9,4 +9,13 @@ requestsOf q = record {
   failures = q .failures;
   fixedAt = q .«fixed_at»;
   updateAt = q .«update_at»;
+}
+
+abbrev pub requestsFrom : Values → Requests
+requestsFrom q = record {
+  «wanted_flag» = q .wantedFlag;
+  «held_flag» = q .heldFlag;
+  failures = q .failures;
+  «fixed_at» = q .fixedAt;
+  «update_at» = q .updateAt;
 }

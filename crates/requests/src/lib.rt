@@ -3,9 +3,9 @@ ghost use mathlib.Core.Path.{_≡_};
 ghost use mathlib.Core.Bool.{cond};
 ghost use Prim.Native.Nat.{_≤_};
 ghost use Rattle.rules.specs.Store.{soundRequests, freshRequests};
-ghost use Rattle.rules.specs.Machine.{takeUpdate, takeYear, failedUpdate, failedFixed, failed, dueOf, isStatus, isClientError, updateWait, refusedWait, windowStart, inWindow, nextWindow};
-ghost use Rattle.rules.specs.Causes.{ofDue};
-ghost use Rattle.requests.specs.Requests.{requestsOf};
+ghost use Rattle.rules.specs.Machine.{takeUpdate, takeYear, failedUpdate, failedFixed, failed, isStatus, isClientError, updateWait, refusedWait, windowStart, inWindow, nextWindow};
+ghost use Rattle.requests.specs.Requests.{requestsOf, requestsFrom};
+ghost use Rattle.requests.specs.Due.{dueFor};
 use rules::Due;
 use rules::Kind;
 
@@ -107,7 +107,7 @@ fn next_window(digit: u8, clock: u32) -> u64
 impl Requests {
     // Those of a fresh unit.
     pub fn fresh() -> Requests
-        ensures { λ r. ⌜ requestsOf r ≡ freshRequests ⌝ }
+        ensures { λ r. ⌜ r ≡ requestsFrom freshRequests ⌝ }
     {
         Requests {
             wanted_flag: NO_FLAG,
@@ -130,7 +130,7 @@ impl Requests {
 
     // After a 203 with its flag and its next access.
     pub fn take_update(self, flag: u8, next: u32) -> Requests
-        ensures { λ r. ⌜ requestsOf r ≡ takeUpdate flag next (requestsOf self) ⌝ }
+        ensures { λ r. ⌜ r ≡ requestsFrom (takeUpdate flag next (requestsOf self)) ⌝ }
     {
         if flag == self.wanted_flag {
             return Requests {
@@ -152,7 +152,7 @@ impl Requests {
 
     // After a 201 with its segment's last digit.
     pub fn take_year(self, digit: u8) -> Requests
-        ensures { λ r. ⌜ requestsOf r ≡ takeYear digit (requestsOf self) ⌝ }
+        ensures { λ r. ⌜ r ≡ requestsFrom (takeYear digit (requestsOf self)) ⌝ }
     {
         Requests {
             wanted_flag: self.wanted_flag,
@@ -164,7 +164,7 @@ impl Requests {
     }
 
     fn failed_update(self, clock: u32, status: u64) -> Requests
-        ensures { λ r. ⌜ requestsOf r ≡ failedUpdate clock status (requestsOf self) ⌝ }
+        ensures { λ r. ⌜ r ≡ requestsFrom (failedUpdate clock status (requestsOf self)) ⌝ }
     {
         Requests {
             wanted_flag: self.wanted_flag,
@@ -176,7 +176,7 @@ impl Requests {
     }
 
     fn failed_fixed(self, digit: u8, clock: u32, status: u64) -> Requests
-        ensures { λ r. ⌜ requestsOf r ≡ failedFixed digit clock status (requestsOf self) ⌝ }
+        ensures { λ r. ⌜ r ≡ requestsFrom (failedFixed digit clock status (requestsOf self)) ⌝ }
     {
         let failures = self.failures;
         if !is_client_error(status) & (failures < RETRIES) {
@@ -199,7 +199,7 @@ impl Requests {
 
     // After a failure of that kind and status, for a plant with that check digit.
     pub fn failed(self, kind: Kind, digit: u8, clock: u32, status: u64) -> Requests
-        ensures { λ r. ⌜ requestsOf r ≡ failed digit kind clock status (requestsOf self) ⌝ }
+        ensures { λ r. ⌜ r ≡ requestsFrom (failed digit kind clock status (requestsOf self)) ⌝ }
     {
         match kind {
             Kind::Update => self.failed_update(clock, status),
@@ -209,7 +209,7 @@ impl Requests {
 
     // What is due, for a plant with that check digit.
     pub fn due(self, digit: u8, clock: u32) -> Due
-        ensures { λ r. ⌜ ofDue r ≡ dueOf digit clock (requestsOf self) ⌝ }
+        ensures { λ r. ⌜ r ≡ dueFor digit clock (requestsOf self) ⌝ }
     {
         let now = clock as u64;
         if self.update_at <= now {

@@ -7,6 +7,11 @@ use Rattle.rules.specs.declared.Ceiling.{Ceiling}
 use Rattle.rules.specs.declared.Due.{Due}
 use Rattle.rules.specs.declared.Command.{Command}
 use Rattle.rules.specs.declared.FreeBlocks.{FreeBlocks}
+use Rattle.rules.specs.declared.Summary.{Summary}
+use Rattle.rules.specs.declared.Reading.{Reading}
+use Rattle.rules.specs.declared.Written.{Written}
+use Rattle.rules.specs.declared.ErrorCode.{ErrorCode}
+use Rattle.rules.specs.Name.{formatNumber}
 
 -- the table's numbers
 abbrev pub numberOf : Cause → ℕ
@@ -61,3 +66,47 @@ ofCommand (Command.Refused c) = refused (numberOf c)
 abbrev pub ofFreeBlocks : FreeBlocks → Reply
 ofFreeBlocks (FreeBlocks.Blocks n) = blocks n
 ofFreeBlocks (FreeBlocks.Refused c) = refused (numberOf c)
+
+-- an answer of a call beside the unit as 01 gives it
+pub data Said (A : Type 0) : Type 0 where
+  refusedBy : ℕ → Said A  -- the cause's number
+  gives : A → Said A
+
+-- of a file that reads well: 201 to 203 or 301, the segment's digits as a number, its records and their rates together,
+-- the first slot that it covers, a 203's flag and next access in seconds, a 301's result; 0 where the format has none
+pub record FileValues : Type 0 where
+  pub format : ℕ
+  pub segment : ℕ
+  pub records : ℕ
+  pub rates : ℕ
+  pub start : ℕ
+  pub flag : ℕ
+  pub nextAccess : ℕ
+  pub result : ℕ
+
+abbrev pub ofSummary : Summary → FileValues
+ofSummary s = record {
+  format = formatNumber (s .format);
+  segment = s .segment;
+  records = s .records;
+  rates = s .rates;
+  start = s .start;
+  flag = s .flag;
+  nextAccess = s .«next_access»;
+  result = s .result;
+}
+
+-- what each answer beside the unit says
+abbrev pub ofReading : Reading → Said FileValues
+ofReading (Reading.Read s) = gives (ofSummary s)
+ofReading (Reading.Refused c) = refusedBy (numberOf c)
+
+-- how many bytes were written
+abbrev pub ofWritten : Written → Said ℕ
+ofWritten (Written.Length n) = gives n
+ofWritten (Written.Refused c) = refusedBy (numberOf c)
+
+-- the code of an error file
+abbrev pub ofErrorCode : ErrorCode → Said ℕ
+ofErrorCode (ErrorCode.Code n) = gives n
+ofErrorCode (ErrorCode.Refused c) = refusedBy (numberOf c)

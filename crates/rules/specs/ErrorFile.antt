@@ -6,6 +6,8 @@ use mathlib.Core.Option.{Option, none, some}
 use lib.ListN.{length, getD, drop}
 use lib.Dec.{leb, eqb}
 use Rattle.rules.specs.Digits.{part, value, allAscii, fromAscii}
+use Rattle.rules.specs.declared.Cause.{Cause}
+use Rattle.rules.specs.declared.ErrorCode.{ErrorCode}
 
 -- between two numbers, both taken in
 abbrev pub within : ℕ → ℕ → ℕ → Bool
@@ -54,6 +56,11 @@ isErrorFile s =
 -- the four digits after the E as a number; none where the file breaks its form (cause 16)
 unfoldable pub errorCode : List ℕ → Option ℕ
 errorCode s = cond (isErrorFile s) (some (value (fromAscii (part s 1 4)))) none
+
+-- the answer: the code, or 'error file breaks its form'
+abbrev pub codeOf : Option ℕ → ErrorCode
+codeOf (some n) = ErrorCode.Code n
+codeOf none = ErrorCode.Refused Cause.ErrorFile
 
 -- 'the message text is handed back as that part of the file'; the empty part where the file breaks its form
 unfoldable pub errorText : List ℕ → List ℕ

@@ -11,4 +11,5 @@ pub mod Writer
 pub mod ErrorFile
 pub mod Request
 pub mod Lister
+pub mod Reading
 pub mod Examples

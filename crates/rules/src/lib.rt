@@ -58,6 +58,30 @@ pub enum Written {
     Refused(Cause),
 }
 
+// What is kept of a file that reads well: what a unit or a lister needs of it.
+pub struct Summary {
+    pub format: Format,
+    pub segment: u16,
+    pub records: u32,
+    pub rates: u32,
+    pub start: u32,
+    pub flag: u8,
+    pub next_access: u32,
+    pub result: u8,
+}
+
+// What reading a name and body answers.
+pub enum Reading {
+    Read(Summary),
+    Refused(Cause),
+}
+
+// What reading an error file answers: the four digits after the `E` as a number.
+pub enum ErrorCode {
+    Code(u16),
+    Refused(Cause),
+}
+
 // The kind of schedule whose request failed.
 pub enum Kind {
     Update,

@@ -13,7 +13,7 @@ use borrow.Author.Tests.{eq-eqb, ltb-true}
 use Rattle.rules.specs.Store.{storeLength}
 use Rattle.rules.specs.Calendar.{firstSlot, monthOfSlot}
 use Rattle.calendar.proofs.Laws.{first-slot-step, days-range}
-use Rattle.pool.specs.Blocks.{isFree, freeCount, given, findOf, takeOf, holdBy, holdOf}
+use Rattle.pool.specs.Blocks.{isFree, freeCount, given, findOf, takeOf}
 use Rattle.pool.specs.Held.{InBlock}
 use Rattle.pool.specs.declared.Pool.{Pool}
 use Rattle.pool.specs.declared.Taken.{Taken}
@@ -87,19 +87,6 @@ run-length floor s rates st = go (canPut s rates st)
     go false = refl
 
 -- ---- the pool
-
--- the pool after opening a month is that of `hold`
-pub open-pool : (m : ℕ) (s : Stored) → openMonth m s .pool ≡ holdOf (s .pool) m .pool
-unfolding openMonth holdOf
-open-pool m s = go (findOf (s .pool) m)
-  where
-    took : (p : Pool) (x : Place) → opened p x (s .store) .pool ≡ p
-    took p (In b) = refl
-    took p Full = refl
-
-    go : (f : Found) → openBy f m s .pool ≡ holdBy (s .pool) m f .pool
-    go (At b) = refl
-    go Nothing = took (takeOf (s .pool) m .pool) (takeOf (s .pool) m .place)
 
 -- laying leaves the pool as it is
 pub lay-pool : (q : Piece) (s : Stored) → layPiece q s .pool ≡ s .pool

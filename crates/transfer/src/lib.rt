@@ -4,11 +4,24 @@ ghost use mathlib.Core.Bool.{not};
 ghost use mathlib.Core.Option.{none, some};
 ghost use Rattle.rules.specs.Body.{isSchedule};
 ghost use Rattle.rules.specs.File.{readFile, takeFile};
-ghost use Rattle.body.specs.Reading.{readingOf};
-use body::Reading;
+ghost use Rattle.rules.specs.Reading.{readingOf};
+ghost use Rattle.transfer.specs.Under.{underName, forPlant};
+use name::Fields;
 use name::NameRead;
 use rules::Cause;
 use rules::Format;
+use rules::Reading;
+
+// Cause 8 where the name's ID does not fit, else what the body says under the name's fields.
+fn read_under(fields: Fields, fits: bool, id: &[u8], body: &[u8]) -> Reading
+    ensures { λ r. ⌜ r ≡ readingOf (underName fits fields (now (id .entry)) (now (body .entry))) ⌝ }
+{
+    if !fits {
+        return Reading::Refused(Cause::OtherPlant);
+    }
+    let format = fields.format;
+    body::read_body(format, fields.segment, id, body)
+}
 
 // What a name and body say, read without a plant: the name's ID has its check digit.
 pub fn read(name: &[u8], body: &[u8]) -> Reading
@@ -18,26 +31,25 @@ pub fn read(name: &[u8], body: &[u8]) -> Reading
         return Reading::Refused(Cause::Name);
     };
     let id = name::plant_digits(name);
-    if !plant::is_plant_id(&id) {
-        return Reading::Refused(Cause::OtherPlant);
-    }
-    let format = fields.format;
-    body::read_body(format, fields.segment, &id, body)
+    read_under(fields, plant::is_plant_id(&id), &id, body)
 }
 
-// What a name and body say, read for a plant: the name's ID is the plant's.
+// The same under a name that was read for a plant: the name's ID is the plant's.
+fn read_named(fields: Fields, plant: &[u8], name: &[u8], body: &[u8]) -> Reading
+    ensures { λ r. ⌜ r ≡ readingOf (forPlant fields (now (plant .entry)) (now (name .entry)) (now (body .entry))) ⌝ }
+{
+    let id = name::plant_digits(name);
+    read_under(fields, digits::same(&id, plant), &id, body)
+}
+
+// What a name and body say, read for a plant.
 pub fn read_for(plant: &[u8], name: &[u8], body: &[u8]) -> Reading
     ensures { λ r. ⌜ r ≡ readingOf (readFile (some (now (plant .entry))) (now (name .entry)) (now (body .entry))) ⌝ }
 {
     let NameRead::Named(fields) = name::read_name(name) else {
         return Reading::Refused(Cause::Name);
     };
-    let id = name::plant_digits(name);
-    if !digits::same(&id, plant) {
-        return Reading::Refused(Cause::OtherPlant);
-    }
-    let format = fields.format;
-    body::read_body(format, fields.segment, &id, body)
+    read_named(fields, plant, name, body)
 }
 
 // Whether the format is that of the ID registration.
@@ -56,16 +68,12 @@ fn is_registration(format: Format) -> bool
 pub fn read_to_take(plant: &[u8], name: &[u8], body: &[u8]) -> Reading
     ensures { λ r. ⌜ r ≡ readingOf (takeFile (now (plant .entry)) (now (name .entry)) (now (body .entry))) ⌝ }
 {
-    let NameRead::Named(fields) = name::read_name(name) else {
+    let NameRead::Named(taken) = name::read_name(name) else {
         return Reading::Refused(Cause::Name);
     };
-    let format = fields.format;
+    let format = taken.format;
     if is_registration(format) {
         return Reading::Refused(Cause::Name);
     }
-    let id = name::plant_digits(name);
-    if !digits::same(&id, plant) {
-        return Reading::Refused(Cause::OtherPlant);
-    }
-    body::read_body(format, fields.segment, &id, body)
+    read_named(taken, plant, name, body)
 }

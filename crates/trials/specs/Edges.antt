@@ -32,6 +32,7 @@ use Rattle.rules.specs.Machine.{
   anyFile,
   isHeld,
   countBelow,
+  heldCount,
   setClock,
   approach,
   moveCommand,
@@ -319,6 +320,15 @@ months (suc k) M =
 numbersOf : ℕ → List Call → Machine → List ℕ
 numbersOf len cs M = replyNumbers (replies (told len) cs M)
 
+-- an update with two rates from this start on
+takeTwo : ℕ → Call
+takeTwo start = fileTaken (name F203 0) (updateBody start (1 ∷ 2 ∷ []) 20260327113000)
+
+-- one-slot updates in the first k months of 2099, the last one's first
+takeMonths : ℕ → List Call → List Call
+takeMonths zero cs = cs
+takeMonths (suc k) cs = fileTaken (name F203 0) (updateBody (209900010000 + 1000000 * (k + 1)) (1 ∷ []) 20260327113000) ∷ takeMonths k cs
+
 pub histories : List Line
 histories =
     -- the causes 5, 6, 7 and 9, before and after the clock is set
@@ -396,10 +406,35 @@ histories =
     -- the months that are counted against 16
     ∷ countBelow 13 (isHeld (months 11 freshMachine)) is 11
     ∷ countBelow 13 (isHeld (setClock (firstDay 4 * 86400) (months 11 freshMachine))) is 8
+    -- October 2099: an update from October into November takes two blocks; in December October's serves again
+    ∷ one
+    (sameBytes
+    (numbersOf storeLength
+    (tick (firstDay 1197 * 86400)
+    ∷ takeTwo 209910312330
+    ∷ freeBlocks
+    ∷ clockLost
+    ∷ tick (firstDay 1199 * 86400)
+    ∷ freeBlocks
+    ∷ takeTwo 209912010000
+    ∷ freeBlocks
+    ∷ [])
+    freshMachine)
+    (0 ∷ 0 ∷ 5000014 ∷ 0 ∷ 0 ∷ 5000015 ∷ 0 ∷ 5000014 ∷ []))
+    is 1
+    -- from August 2098 on there are 17 months: with 16 held the seventeenth is refused, and a month that is held is not
+    ∷ one
+    (sameBytes
+    (numbersOf storeLength
+    (tick (firstDay 1184 * 86400)
+    ∷ takeMonths 12 (takeTwo 209812010000 ∷ takeTwo 209811010000 ∷ takeTwo 209810010000 ∷ takeTwo 209809010000 ∷ freeBlocks ∷ takeTwo 209808010000 ∷ takeTwo 209809302300 ∷ takeTwo 209808312330 ∷ []))
+    freshMachine)
+    (0 ∷ 0 ∷ 0 ∷ 0 ∷ 0 ∷ 0 ∷ 0 ∷ 0 ∷ 0 ∷ 0 ∷ 0 ∷ 0 ∷ 0 ∷ 0 ∷ 0 ∷ 0 ∷ 0 ∷ 5000000 ∷ 114 ∷ 0 ∷ 114 ∷ []))
+    is 1
     ∷ []
 
 pub histories-hold : allHold histories ≡ true
-unfolding allHold histories numbersOf months corrected afternoon march27 slot takeExample replyNumbers example10 registered name updateBody
+unfolding allHold histories numbersOf takeTwo takeMonths heldCount months corrected afternoon march27 slot takeExample replyNumbers example10 registered name updateBody
     allAtMost allAscii valueFrom decimal sameBytes
     daysOfMonth firstDay monthFrom monthOfDay exists secondsOf startSlot percent
     formatOf segmentFits lawfulName nameShape parseName encodeName

@@ -6,8 +6,7 @@ use mathlib.Core.List.{map}
 use lib.Dec.{leb, ltb}
 use Rattle.rules.specs.Plant.{lastDigit}
 use Rattle.rules.specs.Store.{soundUnit, soundMonths, soundBlocks, soundRequests, soundClock, freshRequests}
-use Rattle.rules.specs.Machine.{failed, dueOf, isStatus}
-use Rattle.rules.specs.Causes.{ofDue}
+use Rattle.rules.specs.Machine.{failed, isStatus}
 use Rattle.rules.specs.declared.Answer.{Answer}
 use Rattle.rules.specs.declared.Cause.{Cause}
 use Rattle.rules.specs.declared.Command.{Command}
@@ -18,11 +17,12 @@ use Rattle.plant.specs.Plant.{validPlant}
 use Rattle.plant.specs.declared.Plant.{Plant}
 use Rattle.pool.specs.Blocks.{freeCount, isFree}
 use Rattle.pool.specs.Held.{heldOf, soundPool}
-use Rattle.requests.specs.Requests.{requestsOf}
+use Rattle.requests.specs.Requests.{requestsOf, requestsFrom}
+use Rattle.requests.specs.Due.{dueFor}
 use Rattle.requests.specs.declared.Requests.{Requests}
-use Rattle.unit.specs.Values.{clockOf, valuesOf, isSound, requestsFrom, freshPool, freshUnit}
+use Rattle.unit.specs.Values.{clockOf, valuesOf, isSound, freshPool, freshUnit}
 use Rattle.unit.specs.Rows.{firstOf}
-use Rattle.unit.specs.Calls.{refusal, lost, lostOf, withFailure, failureOf, dueReply, commandOf, freeOf}
+use Rattle.unit.specs.Calls.{refusal, lost, lostOf, withFailure, failureOf, dueOf, commandOf, freeOf}
 use Rattle.unit.specs.declared.Unit.{Unit}
 use Rattle.unit.specs.declared.Clock.the-variants.{Unset, At}
 
@@ -43,10 +43,10 @@ sound-is u =
     (and-assoc (validPlant (u .plant) && ltb (u .floor) 1200) months blocks)
 
 -- the fresh unit, with requests that are the fresh ones
-pub fresh-is : (p : Plant) (q : Requests) → requestsOf q ≡ freshRequests
+pub fresh-is : (p : Plant) (q : Requests) → q ≡ requestsFrom freshRequests
     → _≡_ {A = Unit} (record { plant = p; pool = freshPool; requests = q; clock = Unset; floor = 0; command = 0 }) (freshUnit p)
 unfolding freshUnit
-fresh-is p q e = λ i. record { plant = p; pool = freshPool; requests = requestsFrom (e i); clock = Unset; floor = 0; command = 0 }
+fresh-is p q e = rw e
 
 module _ (u : Unit) where
   module _ (bad : isSound u ≡ false) where
@@ -58,8 +58,8 @@ module _ (u : Unit) where
     unfolding failureOf firstOf
     failure-unsound kind status = rw bad
 
-    pub due-unsound : dueReply u ≡ ofDue (Due.Refused Cause.Unsound)
-    unfolding dueReply firstOf
+    pub due-unsound : dueOf u ≡ Due.Refused Cause.Unsound
+    unfolding dueOf firstOf
     due-unsound = rw bad
 
     pub command-unsound : commandOf u ≡ Command.Refused Cause.Unsound
@@ -87,8 +87,8 @@ module _ (u : Unit) where
     unfolding failureOf firstOf
     failure-unset kind status e = rw (good, e)
 
-    pub due-unset : u .clock ≡ Unset → dueReply u ≡ ofDue (Due.Refused Cause.ClockUnset)
-    unfolding dueReply firstOf
+    pub due-unset : u .clock ≡ Unset → dueOf u ≡ Due.Refused Cause.ClockUnset
+    unfolding dueOf firstOf
     due-unset e = rw (good, e)
 
     module _ (t : ℕ) (set : u .clock ≡ At t) where
@@ -97,15 +97,15 @@ module _ (u : Unit) where
       failure-status kind status e = rw (good, set, e)
 
       pub failure-done : (kind : Kind) (status : ℕ) → isStatus status ≡ true → (d : ℕ) → d ≡ lastDigit (u .plant .id) → (q : Requests)
-          → requestsOf q ≡ failed d kind t status (requestsOf (u .requests))
+          → q ≡ requestsFrom (failed d kind t status (requestsOf (u .requests)))
           → failureOf u kind status
           ≡ record {
             unit = record { plant = u .plant; pool = u .pool; requests = q; clock = At t; floor = u .floor; command = u .command };
             answer = Answer.Accepted;
           }
       unfolding failureOf firstOf withFailure
-      failure-done kind status e d h q k = rw (good, set, e, ← h, ← k)
+      failure-done kind status e d h q k = rw (good, set, e, ← h, k)
 
-      pub due-done : (d : ℕ) → d ≡ lastDigit (u .plant .id) → dueReply u ≡ dueOf d t (requestsOf (u .requests))
-      unfolding dueReply firstOf
+      pub due-done : (d : ℕ) → d ≡ lastDigit (u .plant .id) → dueOf u ≡ dueFor d t (requestsOf (u .requests))
+      unfolding dueOf firstOf
       due-done d h = rw (good, set, ← h)

@@ -23,10 +23,10 @@ use Rattle.digits.proofs.Scan.{part-rest}
 use Rattle.name.proofs.Laws.{segment-digit}
 use Rattle.exact.proofs.Reading.{taken-exactly, lawful-facts}
 use Rattle.body.specs.Walk.{shaped, recordsFrom}
-use Rattle.body.specs.Reading.{summaryOf, readingOf, firstStart, accessOf}
-use Rattle.body.specs.declared.Summary.{Summary}
-use Rattle.body.specs.declared.Reading.{Reading}
-use Rattle.body.specs.declared.Reading.the-variants.{Read, Refused}
+use Rattle.rules.specs.Reading.{summaryOf, readingOf, firstStart, accessOf}
+use Rattle.rules.specs.declared.Summary.{Summary}
+use Rattle.rules.specs.declared.Reading.{Reading}
+use Rattle.rules.specs.declared.Reading.the-variants.{Read, Refused}
 use Rattle.body.proofs.Parts.{both}
 use Rattle.body.proofs.Walk.{parse-is}
 use Rattle.agreement.specs.Run.{RunFrom, runStart, runLength}

@@ -12,17 +12,17 @@ use Rattle.rules.specs.Machine.{takeBy}
 use Rattle.rules.specs.Store.{storeLength}
 use Rattle.rules.specs.declared.Cause.{Cause}
 use Rattle.body.specs.Walk.{recordsFrom}
-use Rattle.body.specs.Reading.{summaryOf, readingOf}
-use Rattle.body.specs.declared.Summary.{Summary}
-use Rattle.body.specs.declared.Reading.the-variants.{Read, Refused}
+use Rattle.rules.specs.Reading.{summaryOf, readingOf}
+use Rattle.rules.specs.declared.Summary.{Summary}
+use Rattle.rules.specs.declared.Reading.the-variants.{Read, Refused}
 use Rattle.pool.specs.Blocks.{freeCount}
 use Rattle.pool.specs.declared.Pool.{Pool}
 use Rattle.schedule.specs.Stored.{Stored, storeHolds, missing}
 use Rattle.schedule.specs.Rates.{storedOf}
 use Rattle.agreement.specs.Run.{runStart, runLength, putRecords}
-use Rattle.requests.specs.Requests.{requestsOf}
+use Rattle.requests.specs.Requests.{requestsOf, requestsFrom}
 use Rattle.requests.specs.declared.Requests.{Requests}
-use Rattle.unit.specs.Values.{isSound, requestsFrom}
+use Rattle.unit.specs.Values.{isSound}
 use Rattle.unit.specs.Rows.{firstOf, isUnset}
 use Rattle.unit.specs.Calls.{refusal, fullRow, withFile, takeOf, storeAfterTake}
 use Rattle.unit.specs.Taking.{Following, takeSummary, filed}

@@ -7,20 +7,21 @@ use lib.Dec.{leb, ltb}
 use Rattle.rules.specs.Calendar.{slotOf}
 use Rattle.rules.specs.Plant.{Settings, lastDigit, percent}
 use Rattle.rules.specs.File.{File, Outcome, refuse, file, takeFile, recordsIn}
-use Rattle.rules.specs.Machine.{raisedFloor, approach, target, failed, dueOf, takeBy}
-use Rattle.rules.specs.Causes.{Reply, refused, numberOf}
+use Rattle.rules.specs.Machine.{raisedFloor, approach, target, failed, takeBy}
 use Rattle.rules.specs.declared.Cause.{Cause}
 use Rattle.rules.specs.declared.Answer.{Answer}
 use Rattle.rules.specs.declared.Ceiling.{Ceiling}
 use Rattle.rules.specs.declared.Command.{Command}
+use Rattle.rules.specs.declared.Due.{Due}
 use Rattle.rules.specs.declared.FreeBlocks.{FreeBlocks}
 use Rattle.rules.specs.declared.Kind.{Kind}
 use Rattle.plant.specs.Plant.{settingsOf}
 use Rattle.pool.specs.Blocks.{releaseOf, freeCount}
 use Rattle.schedule.specs.Stored.{Stored, storedRate, missing}
 use Rattle.agreement.specs.Run.{runStart, runLength, putRecords}
-use Rattle.requests.specs.Requests.{requestsOf}
-use Rattle.unit.specs.Values.{clockOf, requestsFrom}
+use Rattle.requests.specs.Requests.{requestsOf, requestsFrom}
+use Rattle.requests.specs.Due.{dueFor}
+use Rattle.unit.specs.Values.{clockOf}
 use Rattle.unit.specs.Rows.{Row, firstOf, lengthRow, unitRow, soundRow, clockRow, tickRow, slotRow, statusRow}
 use Rattle.unit.specs.declared.Unit.{Unit}
 use Rattle.unit.specs.declared.Done.{Done}
@@ -156,15 +157,15 @@ failureOf u kind status = doneBy (firstOf (unitRow u ∷ clockRow u ∷ statusRo
 
 -- ---- the questions
 
--- the answer where no row applies, else the cause's number
-abbrev pub replyBy : Option Cause → Reply → Reply
-replyBy none r = r
-replyBy (some c) r = refused (numberOf c)
+-- the answer where no row applies, else the cause
+abbrev pub dueBy : Option Cause → Due → Due
+dueBy none a = a
+dueBy (some c) a = Due.Refused c
 
-unfoldable pub dueReply : Unit → Reply
-dueReply u =
-    replyBy (firstOf (unitRow u ∷ clockRow u ∷ []))
-    (dueOf (lastDigit (u .plant .id)) (clockTime (u .clock)) (requestsOf (u .requests)))
+unfoldable pub dueOf : Unit → Due
+dueOf u =
+    dueBy (firstOf (unitRow u ∷ clockRow u ∷ []))
+    (dueFor (lastDigit (u .plant .id)) (clockTime (u .clock)) (requestsOf (u .requests)))
 
 abbrev pub ceilingAnswer : Settings → Option ℕ → Ceiling
 ceilingAnswer s none = Ceiling.NoRate

@@ -6,3 +6,4 @@ pub mod Ticks
 pub mod Taking
 pub mod Stepping
 pub mod Request
+pub mod Asked

@@ -1,9 +1,9 @@
 -- One call of the unit, given as a value: what the theorem about every list of calls runs. Case by case it is the call's own definition.
 use mathlib.Core.List.{List, [], _∷_}
 use Prim.Native.Nat.{ℕ}
-use Rattle.rules.specs.Causes.{Reply, ofAnswer, ofCeiling, ofCommand, ofFreeBlocks}
+use Rattle.rules.specs.Causes.{Reply, ofAnswer, ofDue, ofCeiling, ofCommand, ofFreeBlocks}
 use Rattle.rules.specs.Machine.{Call, tick, clockLost, fileTaken, failure, due, ceilingOf, command, freeBlocks}
-use Rattle.unit.specs.Calls.{tickOf, lostOf, takeOf, storeAfterTake, failureOf, dueReply, ceilingOf as ceilingAt, commandOf, freeOf}
+use Rattle.unit.specs.Calls.{tickOf, lostOf, takeOf, storeAfterTake, failureOf, dueOf, ceilingOf as ceilingAt, commandOf, freeOf}
 use Rattle.unit.specs.declared.Unit.{Unit}
 use Rattle.unit.specs.declared.Done.{Done}
 
@@ -23,7 +23,7 @@ step (tick t) s = stepDone (tickOf (s .unit) (s .store) t) (s .store)
 step clockLost s = stepDone (lostOf (s .unit)) (s .store)
 step (fileTaken name body) s = stepDone (takeOf (s .unit) (s .store) name body) (storeAfterTake (s .unit) (s .store) name body)
 step (failure kind status) s = stepDone (failureOf (s .unit) kind status) (s .store)
-step due s = (dueReply (s .unit), s)
+step due s = (ofDue (dueOf (s .unit)), s)
 step (ceilingOf slot) s = (ofCeiling (ceilingAt (s .unit) (s .store) slot), s)
 step command s = (ofCommand (commandOf (s .unit)), s)
 step freeBlocks s = (ofFreeBlocks (freeOf (s .unit)), s)

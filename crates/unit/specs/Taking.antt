@@ -9,7 +9,7 @@ use Rattle.rules.specs.declared.Answer.{Answer}
 use Rattle.rules.specs.declared.Format.{Format}
 use Rattle.rules.specs.declared.Format.the-variants.{F201, F202, F203, F301}
 use Rattle.body.specs.Walk.{shaped, recordsFrom}
-use Rattle.body.specs.declared.Summary.{Summary}
+use Rattle.rules.specs.declared.Summary.{Summary}
 use Rattle.agreement.specs.Run.{RunFrom}
 use Rattle.pool.specs.declared.Pool.{Pool}
 use Rattle.requests.specs.declared.Requests.{Requests}

@@ -5,14 +5,13 @@ use mathlib.Core.List.{List}
 use mathlib.Core.Option.{Option, none, some}
 use lib.ListN.{replicate}
 use Rattle.rules.specs.Plant.{Settings}
-use Rattle.rules.specs.Store.{Values, Requests as RequestValues, soundUnit, freshRequests}
+use Rattle.rules.specs.Store.{Values, soundUnit, freshRequests}
 use Rattle.pool.specs.Blocks.{isFree}
 use Rattle.pool.specs.Held.{heldOf}
 use Rattle.pool.specs.declared.Pool.{Pool}
 use Rattle.plant.specs.Plant.{settingsOf, installed}
 use Rattle.plant.specs.declared.Plant.{Plant}
-use Rattle.requests.specs.Requests.{requestsOf}
-use Rattle.requests.specs.declared.Requests.{Requests}
+use Rattle.requests.specs.Requests.{requestsOf, requestsFrom}
 use Rattle.unit.specs.declared.Unit.{Unit}
 use Rattle.unit.specs.declared.Installed.{Installed}
 use Rattle.unit.specs.declared.Clock.{Clock}
@@ -21,16 +20,6 @@ use Rattle.unit.specs.declared.Clock.the-variants.{Unset, At}
 abbrev pub clockOf : Clock → Option ℕ
 clockOf Unset = none
 clockOf (At t) = some t
-
--- the struct from 01's values
-abbrev pub requestsFrom : RequestValues → Requests
-requestsFrom q = record {
-  «wanted_flag» = q .wantedFlag;
-  «held_flag» = q .heldFlag;
-  failures = q .failures;
-  «fixed_at» = q .fixedAt;
-  «update_at» = q .updateAt;
-}
 
 unfoldable pub valuesOf : Unit → Values
 valuesOf u = record {

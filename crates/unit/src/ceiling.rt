@@ -1,6 +1,8 @@
 // The ceiling of a slot.
 ghost use mathlib.Core.Path.{_≡_};
 ghost use Rattle.unit.specs.Calls.{ceilingOf};
+ghost use Rattle.unit.specs.Asked.{ceilingAsked};
+use crate::CeilingAsked;
 use crate::Clock;
 use crate::Unit;
 use rules::Cause;
@@ -11,8 +13,7 @@ use schedule::StoredRate;
 const SLOTS: u64 = 36525 * 48;
 
 impl Unit {
-    // The rate and the percent of a slot, where it has one.
-    pub fn ceiling(self, slot: u64, store: &[u8]) -> Ceiling
+    fn ceiling_answer(self, slot: u64, store: &[u8]) -> Ceiling
         ensures { λ r. ⌜ r ≡ ceilingOf self (now (store .entry)) slot ⌝ }
     {
         if store.len() != Unit::STORE_LENGTH {
@@ -37,5 +38,13 @@ impl Unit {
             },
             StoredRate::NoRate => Ceiling::NoRate,
         }
+    }
+
+    // The rate and the percent of a slot, where it has one.
+    pub fn ceiling(self, slot: u64, store: &[u8]) -> CeilingAsked
+        ensures { λ r. ⌜ r ≡ ceilingAsked self (now (store .entry)) slot ⌝ }
+    {
+        let answer = self.ceiling_answer(slot, store);
+        CeilingAsked { unit: self, answer }
     }
 }

@@ -1,10 +1,10 @@
 // The schedule unit (01, The store, The plain machine): its values, and its calls.
 ghost use mathlib.Core.Path.{_≡_};
-ghost use Rattle.rules.specs.Causes.{ofDue};
 ghost use Rattle.rules.specs.Store.{soundClock};
 ghost use Rattle.plant.specs.Plant.{settings};
 ghost use Rattle.unit.specs.Values.{clockOf, isSound, freshUnit, installedUnit};
-ghost use Rattle.unit.specs.Calls.{refusal, lostOf, failureOf, dueReply, commandOf, freeOf};
+ghost use Rattle.unit.specs.Calls.{refusal, lostOf, failureOf, dueOf, commandOf, freeOf};
+ghost use Rattle.unit.specs.Asked.{dueAsked, commandAsked, freeAsked};
 
 mod ceiling;
 mod put;
@@ -18,10 +18,12 @@ use pool::Pool;
 use requests::Requests;
 use rules::Answer;
 use rules::Cause;
+use rules::Ceiling;
 use rules::Command;
 use rules::Due;
 use rules::FreeBlocks;
 use rules::Kind;
+use rules::Written;
 pub use step::Call;
 pub use step::Reply;
 pub use step::Stepped;
@@ -48,10 +50,30 @@ pub struct Done {
     pub answer: Answer,
 }
 
-// A unit after it was asked what is due, and the answer.
-pub struct DueDone {
+// A unit after a question, and the question's answer: each question has its own.
+pub struct DueAsked {
     pub unit: Unit,
     pub answer: Due,
+}
+
+pub struct CeilingAsked {
+    pub unit: Unit,
+    pub answer: Ceiling,
+}
+
+pub struct CommandAsked {
+    pub unit: Unit,
+    pub answer: Command,
+}
+
+pub struct FreeAsked {
+    pub unit: Unit,
+    pub answer: FreeBlocks,
+}
+
+pub struct RequestAsked {
+    pub unit: Unit,
+    pub answer: Written,
 }
 
 // The answer to install, and the unit where it is accepted; else one that is not sound.
@@ -201,33 +223,30 @@ impl Unit {
         }
     }
 
-    // What is due.
-    pub fn due(self) -> DueDone
-        ensures { λ r. ⌜ (r .unit ≡ self) × (ofDue (r .answer) ≡ dueReply self) ⌝ }
+    fn due_answer(self) -> Due
+        ensures { λ r. ⌜ r ≡ dueOf self ⌝ }
     {
         if !self.sound() {
-            return DueDone {
-                unit: self,
-                answer: Due::Refused(Cause::Unsound),
-            };
+            return Due::Refused(Cause::Unsound);
         }
         let clock = self.clock;
         let Clock::At(t) = clock else {
-            return DueDone {
-                unit: self,
-                answer: Due::Refused(Cause::ClockUnset),
-            };
+            return Due::Refused(Cause::ClockUnset);
         };
         let plant = self.plant;
         let requests = self.requests;
-        DueDone {
-            unit: self,
-            answer: requests.due(plant.check_digit(), t),
-        }
+        requests.due(plant.check_digit(), t)
     }
 
-    // The command, in parts.
-    pub fn command(self) -> Command
+    // What is due.
+    pub fn due(self) -> DueAsked
+        ensures { λ r. ⌜ r ≡ dueAsked self ⌝ }
+    {
+        let answer = self.due_answer();
+        DueAsked { unit: self, answer }
+    }
+
+    fn command_answer(self) -> Command
         ensures { λ r. ⌜ r ≡ commandOf self ⌝ }
     {
         if !self.sound() {
@@ -236,8 +255,15 @@ impl Unit {
         Command::Parts(self.command)
     }
 
-    // How many blocks are free.
-    pub fn free_blocks(self) -> FreeBlocks
+    // The command, in parts.
+    pub fn command(self) -> CommandAsked
+        ensures { λ r. ⌜ r ≡ commandAsked self ⌝ }
+    {
+        let answer = self.command_answer();
+        CommandAsked { unit: self, answer }
+    }
+
+    fn free_answer(self) -> FreeBlocks
         ensures { λ r. ⌜ r ≡ freeOf self ⌝ }
     {
         if !self.sound() {
@@ -245,5 +271,13 @@ impl Unit {
         }
         let pool = self.pool;
         FreeBlocks::Blocks(pool.free_count())
+    }
+
+    // How many blocks are free.
+    pub fn free_blocks(self) -> FreeAsked
+        ensures { λ r. ⌜ r ≡ freeAsked self ⌝ }
+    {
+        let answer = self.free_answer();
+        FreeAsked { unit: self, answer }
     }
 }

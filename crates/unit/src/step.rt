@@ -1,7 +1,11 @@
 // One call of the unit given as a value, and its reply: what a list of calls is made of.
 ghost use mathlib.Core.Path.{_≡_};
-ghost use Rattle.unit.specs.Stepping.{replyOf, answered, stepOf};
+ghost use Rattle.unit.specs.Stepping.{answered, dueReplied, ceilingReplied, commandReplied, freeReplied, steppedOf, storeOf};
+use crate::CeilingAsked;
+use crate::CommandAsked;
 use crate::Done;
+use crate::DueAsked;
+use crate::FreeAsked;
 use crate::Unit;
 use rules::Answer;
 use rules::Ceiling;
@@ -49,38 +53,66 @@ fn answered(done: Done) -> Stepped
     }
 }
 
+// The step of each question.
+fn due_replied(asked: DueAsked) -> Stepped
+    ensures { λ r. ⌜ r ≡ dueReplied asked ⌝ }
+{
+    let unit = asked.unit;
+    let answer = asked.answer;
+    Stepped {
+        unit,
+        reply: Reply::Due(answer),
+    }
+}
+
+fn ceiling_replied(asked: CeilingAsked) -> Stepped
+    ensures { λ r. ⌜ r ≡ ceilingReplied asked ⌝ }
+{
+    let unit = asked.unit;
+    let answer = asked.answer;
+    Stepped {
+        unit,
+        reply: Reply::Ceiling(answer),
+    }
+}
+
+fn command_replied(asked: CommandAsked) -> Stepped
+    ensures { λ r. ⌜ r ≡ commandReplied asked ⌝ }
+{
+    let unit = asked.unit;
+    let answer = asked.answer;
+    Stepped {
+        unit,
+        reply: Reply::Command(answer),
+    }
+}
+
+fn free_replied(asked: FreeAsked) -> Stepped
+    ensures { λ r. ⌜ r ≡ freeReplied asked ⌝ }
+{
+    let unit = asked.unit;
+    let answer = asked.answer;
+    Stepped {
+        unit,
+        reply: Reply::Blocks(answer),
+    }
+}
+
 impl Unit {
     // A call, whichever it is; only a file looks at name and body.
     pub fn step(self, call: Call, name: &[u8], body: &[u8], store: &mut [u8]) -> Stepped
-        ensures reply { λ r. ⌜ replyOf (r .reply) ≡ stepOf self call (now (name .entry)) (now (body .entry)) (now (store .entry)) .0 ⌝ }
-        ensures unit { λ r. ⌜ r .unit ≡ stepOf self call (now (name .entry)) (now (body .entry)) (now (store .entry)) .1 .unit ⌝ }
-        ensures kept { λ _. ⌜ now (store .exit) ≡ stepOf self call (now (name .entry)) (now (body .entry)) (now (store .entry)) .1 .store ⌝ }
+        ensures answer { λ r. ⌜ r ≡ steppedOf self call (now (name .entry)) (now (body .entry)) (now (store .entry)) ⌝ }
+        ensures kept { λ _. ⌜ now (store .exit) ≡ storeOf self call (now (name .entry)) (now (body .entry)) (now (store .entry)) ⌝ }
     {
         match call {
             Call::Tick(t) => answered(self.tick(t, store)),
             Call::ClockLost => answered(self.clock_lost()),
             Call::File => answered(self.take_file(name, body, store)),
             Call::Failure(kind, status) => answered(self.failure(kind, status)),
-            Call::Due => {
-                let asked = self.due();
-                let answer = asked.answer;
-                Stepped {
-                    unit: self,
-                    reply: Reply::Due(answer),
-                }
-            }
-            Call::Ceiling(slot) => Stepped {
-                unit: self,
-                reply: Reply::Ceiling(self.ceiling(slot, store)),
-            },
-            Call::Command => Stepped {
-                unit: self,
-                reply: Reply::Command(self.command()),
-            },
-            Call::FreeBlocks => Stepped {
-                unit: self,
-                reply: Reply::Blocks(self.free_blocks()),
-            },
+            Call::Due => due_replied(self.due()),
+            Call::Ceiling(slot) => ceiling_replied(self.ceiling(slot, store)),
+            Call::Command => command_replied(self.command()),
+            Call::FreeBlocks => free_replied(self.free_blocks()),
         }
     }
 }

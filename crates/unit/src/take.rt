@@ -6,13 +6,13 @@ ghost use Rattle.unit.specs.Taking.{takeSummary, filed};
 use crate::Clock;
 use crate::Done;
 use crate::Unit;
-use body::Reading;
-use body::Summary;
 use pool::Pool;
 use requests::Requests;
 use rules::Answer;
 use rules::Cause;
 use rules::Format;
+use rules::Reading;
+use rules::Summary;
 
 // 'A body is a 6-digit record count, then the records'.
 const RECORDS: usize = 6;

@@ -1,7 +1,7 @@
 //! The C functions of `libjagwelu.a`, and safe calls around them. A slice
-//! passes as pointer, then length; also an empty slice's pointer isn't null.
+//! passes as pointer, then length.
 
-use super::{CeilingAnswer, Done, DueAnswer, ErrorAnswer, FileAnswer, Number, Unit, Written};
+use super::{CeilingAnswer, Done, DueAnswer, ErrorAnswer, FileAnswer, Number, Places, Unit, Written};
 use crate::reference::Fields;
 
 #[rustfmt::skip]
@@ -29,6 +29,14 @@ extern "C" {
     fn jag_read(
         name: *const u8, name_length: usize, body: *const u8, body_length: usize,
     ) -> FileAnswer;
+    fn jag_read_for(
+        plant: *const u8, plant_length: usize, name: *const u8, name_length: usize,
+        body: *const u8, body_length: usize,
+    ) -> FileAnswer;
+    fn jag_record(format: u32, body: *const u8, body_length: usize, index: usize) -> Places;
+    fn jag_copy_rates(
+        format: u32, body: *const u8, body_length: usize, out: *mut u8, out_length: usize,
+    ) -> Written;
     fn jag_write_body(
         format: u32, plant: *const u8, plant_length: usize,
         schedule: *const u8, schedule_length: usize, start: *const u8, start_length: usize,
@@ -118,6 +126,35 @@ pub fn request(unit: Unit, segment: &[u8], out: &mut [u8]) -> Written {
 
 pub fn read(name: &[u8], body: &[u8]) -> FileAnswer {
     unsafe { jag_read(name.as_ptr(), name.len(), body.as_ptr(), body.len()) }
+}
+
+pub fn read_for(plant: &[u8], name: &[u8], body: &[u8]) -> FileAnswer {
+    unsafe {
+        jag_read_for(
+            plant.as_ptr(),
+            plant.len(),
+            name.as_ptr(),
+            name.len(),
+            body.as_ptr(),
+            body.len(),
+        )
+    }
+}
+
+pub fn record(format: u32, body: &[u8], index: usize) -> Places {
+    unsafe { jag_record(format, body.as_ptr(), body.len(), index) }
+}
+
+pub fn copy_rates(format: u32, body: &[u8], out: &mut [u8]) -> Written {
+    unsafe {
+        jag_copy_rates(
+            format,
+            body.as_ptr(),
+            body.len(),
+            out.as_mut_ptr(),
+            out.len(),
+        )
+    }
 }
 
 pub fn write_body(fields: &Fields, out: &mut [u8]) -> Written {

@@ -14,7 +14,7 @@ const LENGTHS: [u64; 12] = [31, 28, 31, 30, 31, 30, 31, 31, 30, 31, 30, 31];
 /// leap year.
 pub fn days(month: u64) -> u64 {
     let year = 2000 + month / 12;
-    let leap_day = month % 12 == 1 && year.is_multiple_of(4) && year != 2100;
+    let leap_day = month % 12 == 1 && year % 4 == 0 && year != 2100;
     LENGTHS[(month % 12) as usize] + u64::from(leap_day)
 }
 

@@ -146,6 +146,18 @@ fn changed(machine: &Machine, now: u64, shape: &Shape, random: &mut Random) -> C
     Call::TakeFile { name, body }
 }
 
+/// A registration, which no unit takes: for its plant, for another, broken.
+fn registration(machine: &Machine, random: &mut Random) -> Draft {
+    let mut draft = Draft::registration(&machine.id, random);
+    match random.below(4) {
+        0 => {}
+        1 => draft = Draft::valid(301, random),
+        2 => draft.records[0].flag = vec![random.between(2, 255) as u8],
+        _ => draft.short = random.between(1, 33) as usize,
+    }
+    draft
+}
+
 /// A file to be taken. The weights stand for: yearly, monthly, update, with
 /// one kind of damage, with a byte changed, and those that a unit doesn't take
 /// although they read well.
@@ -157,7 +169,7 @@ pub fn file(machine: &Machine, last: u64, shape: &Shape, random: &mut Random) ->
         2 => taken(&draft(203, machine, now, shape, random)),
         3 => damaged(machine, now, shape, random),
         4 => changed(machine, now, shape, random),
-        _ if random.once_in(2) => taken(&draft(301, machine, now, shape, random)),
+        _ if random.once_in(2) => taken(&registration(machine, random)),
         _ => {
             let mut other = Draft::valid(203, random);
             if other.owner == machine.id {

@@ -8,11 +8,12 @@ use crate::call::{Answer, Call};
 use crate::reference::calendar::END;
 use crate::reference::requests::{is_client_error, Reason, Requests};
 use crate::reference::schedule::{month_of_second, months_of};
-use crate::reference::{Machine, Segment};
+use crate::reference::{read, Machine, Segment};
 use crate::tally::Branches;
 
 /// Every branch that must come.
-pub const BRANCHES: [&str; 48] = [
+pub const BRANCHES: [&str; 52] = [
+    "made up: a month held without a rate",
     "tick: clock was unset",
     "tick: the same second",
     "tick: back",
@@ -40,6 +41,9 @@ pub const BRANCHES: [&str; 48] = [
     "file: yearly, refused with 14",
     "file: monthly, refused with 14",
     "file: update, refused with 14",
+    "file: registration for the plant, refused with 7",
+    "file: registration for another plant, refused with 7",
+    "file: broken registration, refused with 7",
     "update failed: 400-499",
     "update failed: other",
     "update failed: u past T",
@@ -98,7 +102,19 @@ impl Before {
     }
 }
 
-/// Counts the branches of a call, of a refused one only those of cause 14.
+/// What a registration, which no unit takes, would be refused with if it were
+/// read; nothing of a name that is broken.
+fn registration(machine: &Machine, name: &[u8], body: &[u8]) -> Option<&'static str> {
+    match read(Some(&machine.id), name, body) {
+        Ok(_) => Some("file: registration for the plant, refused with 7"),
+        Err(7) => None,
+        Err(8) => Some("file: registration for another plant, refused with 7"),
+        Err(_) => Some("file: broken registration, refused with 7"),
+    }
+}
+
+/// Counts the branches of a call, of a refused one only those of cause 14 and
+/// of registrations.
 pub fn note(before: &Before, machine: &Machine, call: &Call, answer: Answer, counts: &mut Counts) {
     let branches = &mut counts.branches;
     match (call, answer) {
@@ -107,6 +123,11 @@ pub fn note(before: &Before, machine: &Machine, call: &Call, answer: Answer, cou
             b'2' => "file: monthly, refused with 14",
             _ => "file: update, refused with 14",
         }),
+        (Call::TakeFile { name, body }, Answer::Refused(7)) if name.starts_with(b"301") => {
+            if let Some(branch) = registration(machine, name, body) {
+                branches.add(branch);
+            }
+        }
         (_, Answer::Refused(_)) => {}
         (Call::Tick { second }, _) => note_tick(before, machine, *second, branches),
         (Call::ClockLost, _) => branches.add(match before.clock {

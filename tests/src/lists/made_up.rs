@@ -42,7 +42,8 @@ fn some_months(unit: &mut Unit, random: &mut Random) {
     }
 }
 
-/// Any bytes in free blocks, lawful ones in the others, with at least one rate.
+/// Any bytes in free blocks, lawful ones in the others, at times without a
+/// rate.
 fn some_store(unit: &Unit, random: &mut Random) -> Vec<u8> {
     let mut store = random.bytes(STORE_LENGTH);
     for (month, block) in unit.held() {
@@ -50,6 +51,9 @@ fn some_store(unit: &Unit, random: &mut Random) -> Vec<u8> {
         let slots = 48 * days_of_month(month) as usize;
         let rates = random.rates(slots);
         bytes.fill(255);
+        if random.once_in(8) {
+            continue;
+        }
         let (from, to) = (random.place(slots), random.place(slots));
         let (from, to) = (from.min(to), from.max(to) + 1);
         bytes[from..to].copy_from_slice(&rates[from..to]);
@@ -87,6 +91,6 @@ pub fn pair(now: u64, random: &mut Random) -> Pair {
     }
     some_months(&mut unit, random);
     let store = some_store(&unit, random);
-    let machine = machine_of(&unit, &store).expect("a rate in each held month");
+    let machine = machine_of(&unit, &store);
     Pair::of(machine, unit, &store)
 }

@@ -63,6 +63,51 @@ pub fn agree(unit: &Unit, machine: &Machine) -> Result<(), String> {
     same("held months", months, held)
 }
 
+/// Demands that the block of each held month has the machine's rates. A store
+/// of another length than 01's has no block.
+pub fn blocks_agree(unit: &Unit, store: &[u8], machine: &Machine) -> Result<(), String> {
+    for (month, block) in unit.held() {
+        let bytes = &store[block * BLOCK_LENGTH..][..BLOCK_LENGTH];
+        let rates = machine.schedule.block_in_layers(month);
+        let place = (0..BLOCK_LENGTH).find(|place| bytes[*place] != rates[*place]);
+        if let Some(place) = place {
+            let what = format!("month {month}, byte {place} of its block {block}");
+            same(&what, bytes[place], rates[place])?;
+        }
+    }
+    Ok(())
+}
+
+/// 'File taken alone writes to it, only in blocks of months that its file
+/// covers.'
+pub fn writes_agree(
+    unit: &Unit,
+    machine: &Machine,
+    call: &Call,
+    answer: Answer,
+    [before, after]: [&[u8]; 2],
+) -> Result<(), String> {
+    if after == before {
+        return Ok(());
+    }
+    let taken = matches!(call, Call::TakeFile { .. }) && answer == Answer::Accepted;
+    let Some(file) = machine.schedule.files.last().filter(|_| taken) else {
+        return Err("store: library wrote, reference doesn't".to_string());
+    };
+    let covered = months_of(file);
+    let mut may_change = [false; firmware::BLOCK_COUNT];
+    for (month, block) in unit.held() {
+        may_change[block] = covered.contains(&month);
+    }
+    let blocks = after.chunks(BLOCK_LENGTH).zip(before.chunks(BLOCK_LENGTH));
+    for (block, (after, before)) in blocks.enumerate() {
+        if !may_change[block] && after != before {
+            return Err(format!("store: library wrote to block {block}"));
+        }
+    }
+    Ok(())
+}
+
 impl Pair {
     /// Installs both, from values that they accept.
     pub fn install(values: &Installing) -> Result<Pair, String> {
@@ -116,37 +161,13 @@ impl Pair {
         if due != Answer::Accepted {
             same("unit", self.unit, unit_before)?;
         }
-        self.check_store(call, due, &store_before)?;
+        let stores = [store_before.as_slice(), self.store.held()];
+        writes_agree(&self.unit, &self.machine, call, due, stores)?;
         agree(&self.unit, &self.machine)?;
         counts.call(call.title(), due);
         branches::note(&before, &self.machine, call, due, counts);
         if let (Call::Tick { second }, Answer::Accepted) = (call, due) {
             self.tick_by_seconds(&unit_before, *second, random, counts)?;
-        }
-        Ok(())
-    }
-
-    /// 'File taken alone writes to it, only in blocks of months that its file
-    /// covers.'
-    fn check_store(&self, call: &Call, answer: Answer, before: &[u8]) -> Result<(), String> {
-        let after = self.store.held();
-        if after == before {
-            return Ok(());
-        }
-        let taken = matches!(call, Call::TakeFile { .. }) && answer == Answer::Accepted;
-        let Some(file) = self.machine.schedule.files.last().filter(|_| taken) else {
-            return Err("store: library wrote, reference doesn't".to_string());
-        };
-        let covered = months_of(file);
-        let mut may_change = [false; firmware::BLOCK_COUNT];
-        for (month, block) in self.unit.held() {
-            may_change[block] = covered.contains(&month);
-        }
-        let blocks = after.chunks(BLOCK_LENGTH).zip(before.chunks(BLOCK_LENGTH));
-        for (block, (after, before)) in blocks.enumerate() {
-            if !may_change[block] && after != before {
-                return Err(format!("store: library wrote to block {block}"));
-            }
         }
         Ok(())
     }
@@ -187,15 +208,7 @@ impl Pair {
     /// After the list: blocks, soundness, what no call changes, the request.
     pub fn settle(&mut self, random: &mut Random) -> Result<(), String> {
         let store = self.store.held();
-        for (month, block) in self.unit.held() {
-            let bytes = &store[block * BLOCK_LENGTH..][..BLOCK_LENGTH];
-            let rates = self.machine.schedule.block_in_layers(month);
-            let place = (0..BLOCK_LENGTH).find(|place| bytes[*place] != rates[*place]);
-            if let Some(place) = place {
-                let what = format!("month {month}, byte {place} of its block {block}");
-                same(&what, bytes[place], rates[place])?;
-            }
-        }
+        blocks_agree(&self.unit, store, &self.machine)?;
         let sound = verdict(&self.unit, Some(store));
         let cause = sound.err().map_or(0, u32::from);
         same("check", firmware::check(self.unit, store), cause)?;
@@ -216,9 +229,13 @@ impl Pair {
         if self.store.held().len() != firmware::STORE_LENGTH {
             return Ok(());
         }
-        let Some(view) = machine_of(&self.unit, self.store.held()) else {
-            return Err("a held month without a rate".to_string());
-        };
+        let view = machine_of(&self.unit, self.store.held());
+        let made_up = &self.machine.schedule.hollow;
+        same(
+            "months without a rate",
+            view.schedule.hollow.is_subset(made_up),
+            true,
+        )?;
         agree(&self.unit, &view)
     }
 }

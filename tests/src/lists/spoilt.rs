@@ -3,7 +3,7 @@
 //! machine answers that it stands for.
 
 use super::counts::Counts;
-use super::pair::{agree, check_request, same, Pair};
+use super::pair::{agree, blocks_agree, check_request, same, writes_agree, Pair};
 use crate::call::{Answer, Call};
 use crate::firmware::{self, Unit, STORE_LENGTH};
 use crate::generate::outputs::Install;
@@ -66,20 +66,19 @@ fn one_call(unit: Unit, store: &[u8], whole: &[u8], call: &Call) -> Result<Answe
         same("store unchanged", lent.held() == store, true)?;
         return Ok(answer);
     }
-    let view = match store.len() {
+    // Where the store isn't lent, its rates don't matter to the machine.
+    let mut machine = match store.len() {
         STORE_LENGTH => machine_of(&unit, store),
         _ if whole.len() == STORE_LENGTH => machine_of(&unit, whole),
-        _ => None,
-    };
-    let Some(mut machine) = view else {
-        let refused = matches!(answer, Answer::Refused(3 | 4));
-        same("refused with 3 or 4", refused, false)?;
-        return Ok(answer);
+        _ => machine_of(&unit, &vec![255; STORE_LENGTH]),
     };
     same("answer", answer, machine.answer(call))?;
-    if matches!(answer, Answer::Refused(_)) {
+    if answer != Answer::Accepted {
         same("unit", after, unit)?;
-        same("store unchanged", lent.held() == store, true)?;
+    }
+    writes_agree(&after, &machine, call, answer, [store, lent.held()])?;
+    if judged.is_some() {
+        blocks_agree(&after, lent.held(), &machine)?;
     }
     agree(&after, &machine)?;
     Ok(answer)

@@ -167,6 +167,41 @@ fn form(format: u16, body: &[u8]) -> Result<Vec<Parts<'_>>, u8> {
     }
 }
 
+/// A record's fields by where they begin in the body; of a 201 or 202 flag
+/// and next access are none.
+#[derive(Clone, Copy, Debug, PartialEq, Eq)]
+pub struct Placed {
+    pub schedule: usize,
+    pub plant: usize,
+    pub start: usize,
+    pub rates: usize,
+    pub count: usize,
+    pub flag: Option<usize>,
+    pub checksum: usize,
+    pub next: Option<usize>,
+}
+
+/// Where the fields of a body's records stand. Cause 7 for a format that is
+/// not 201 to 203, 9 for a body that breaks its form.
+pub fn take_apart(format: u32, body: &[u8]) -> Result<Vec<Placed>, u8> {
+    let format = match format {
+        201..=203 => format as u16,
+        _ => return Err(7),
+    };
+    let at = |part: &[u8]| part.as_ptr() as usize - body.as_ptr() as usize;
+    let placed = |record: Parts| Placed {
+        schedule: at(record.schedule),
+        plant: at(record.plant),
+        start: at(record.start),
+        rates: at(record.rates),
+        count: record.rates.len(),
+        flag: record.flag.map(|_| at(record.rates) + record.rates.len()),
+        checksum: at(record.checksum),
+        next: record.next.map(at),
+    };
+    Ok(form(format, body)?.into_iter().map(placed).collect())
+}
+
 /// The month of a 201 or 202 record whose start and n keep the rules.
 fn whole_month(record: &Parts) -> Result<u16, u8> {
     let slot = start_slot(record.start).ok_or(10)?;

@@ -16,6 +16,9 @@ pub const NO_RATE: u8 = 255;
 pub struct Schedule {
     pub floor: u16,
     pub files: Vec<File>,
+    /// Months that a sound unit holds without a rate: no list of calls leads
+    /// there, so this is empty but for made-up units.
+    pub hollow: BTreeSet<u16>,
 }
 
 /// The month of a second.
@@ -59,7 +62,7 @@ impl Schedule {
     /// 'A month is held if it is at or above floor and some listed file covers
     /// a slot of it.'
     pub fn held(&self) -> BTreeSet<u16> {
-        let mut months = BTreeSet::new();
+        let mut months = self.hollow.clone();
         for file in &self.files {
             months.extend(months_of(file));
         }

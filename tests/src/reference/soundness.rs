@@ -1,6 +1,8 @@
 //! Soundness of a unit as firmware keeps it, and of its store (01, 'The
 //! store'), and the machine that sound ones stand for.
 
+use std::collections::BTreeSet;
+
 use super::body::{File, Record};
 use super::calendar::{days_of_month, first_slot, END, MONTHS};
 use super::machine::{Machine, Settings, STORE_LENGTH};
@@ -93,8 +95,7 @@ fn records_of(first: u32, block: &[u8]) -> Vec<Record> {
     records
 }
 
-/// A held month's block as a file. Nothing where it has no rate at all: no
-/// list of files leads there.
+/// A held month's block as a file. Nothing where it has no rate at all.
 fn file_of(month: u16, block: &[u8]) -> Option<File> {
     let slots = 48 * days_of_month(month) as usize;
     let records = records_of(first_slot(month), &block[..slots]);
@@ -111,14 +112,20 @@ fn file_of(month: u16, block: &[u8]) -> Option<File> {
 }
 
 /// The machine that a sound unit and a sound store stand for, its months as
-/// files. Nothing where a held month has no rate.
-pub fn machine_of(unit: &Unit, store: &[u8]) -> Option<Machine> {
-    let files: Option<Vec<File>> = unit
-        .held()
-        .map(|(month, block)| file_of(month, &store[block * BLOCK_LENGTH..][..BLOCK_LENGTH]))
-        .collect();
+/// files.
+pub fn machine_of(unit: &Unit, store: &[u8]) -> Machine {
+    let mut files = Vec::new();
+    let mut hollow = BTreeSet::new();
+    for (month, block) in unit.held() {
+        match file_of(month, &store[block * BLOCK_LENGTH..][..BLOCK_LENGTH]) {
+            Some(file) => files.push(file),
+            None => {
+                hollow.insert(month);
+            }
+        }
+    }
     let flag = |flag: u8| (flag != NO_FLAG).then_some(flag);
-    Some(Machine {
+    Machine {
         id: unit.id.to_vec(),
         settings: Settings {
             panel: unit.panel,
@@ -129,7 +136,8 @@ pub fn machine_of(unit: &Unit, store: &[u8]) -> Option<Machine> {
         clock: (unit.clock_set == 1).then_some(u64::from(unit.clock)),
         schedule: Schedule {
             floor: unit.floor,
-            files: files?,
+            files,
+            hollow,
         },
         requests: Requests {
             wanted_flag: flag(unit.wanted_flag),
@@ -139,5 +147,5 @@ pub fn machine_of(unit: &Unit, store: &[u8]) -> Option<Machine> {
             update_at: unit.update_at,
         },
         command: unit.command,
-    })
+    }
 }

@@ -7,7 +7,7 @@ use Rattle.boundary.proofs.put_words.Statement.{statement}
 use Rattle.boundary.proofs.put_words.Tie as tie
 
 returns : tie.Need-returns
-returns c = words-short _ _ (c .if1 .taken)
+returns c = words-short (c .before .before .args .s) _ (c .if1 .taken)
 
 format-number-requires : tie.Need-format-number-requires
 format-number-requires c κs = search needs
@@ -49,7 +49,7 @@ same-length : tie.Need-same-length
 same-length c = simp length-set
 
 returns-2 : tie.Need-returns-2
-returns-2 c = words-put _ _ _ (c .before .before .before .format-number .ensures) (c .before .before .before .before .if1 .left)
+returns-2 c = words-put (c .before .before .before .before .before .before .args .s) _ _ (c .before .before .before .format-number .ensures) (c .before .before .before .before .if1 .left)
 
 pub put-words-spec : {M : Type 1} → statement M
 put-words-spec =

@@ -1,4 +1,5 @@
 -- `jagwelu::jag_ceiling` meets its contract. Assumes nothing.
+use Rattle.jagwelu.proofs.Laws.{ceiling-said}
 use borrow.Author.Needs.{needs}
 use Rattle.jagwelu.proofs.jag_ceiling.Statement.{statement}
 use Rattle.jagwelu.proofs.jag_ceiling.Tie as tie
@@ -13,7 +14,7 @@ ceiling-answer-requires : tie.Need-ceiling-answer-requires
 ceiling-answer-requires c κs = search needs
 
 returns : tie.Need-returns
-returns c = simp (c .before .before .«open» .ensures, c .before .ceiling .ensures, c .ceiling-answer .ensures)
+returns c = ceiling-said _ _ (c .before .before .«open» .ensures) _ _ _ _ (c .before .ceiling .ensures) (c .ceiling-answer .ensures)
 
 pub jag-ceiling-spec : {M : Type 1} → statement M
 jag-ceiling-spec =

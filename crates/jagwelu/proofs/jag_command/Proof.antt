@@ -1,4 +1,5 @@
 -- `jagwelu::jag_command` meets its contract. Assumes nothing.
+use Rattle.jagwelu.proofs.Laws.{command-said}
 use borrow.Author.Needs.{needs}
 use Rattle.jagwelu.proofs.jag_command.Statement.{statement}
 use Rattle.jagwelu.proofs.jag_command.Tie as tie
@@ -13,7 +14,7 @@ command-number-requires : tie.Need-command-number-requires
 command-number-requires c κs = search needs
 
 returns : tie.Need-returns
-returns c = simp (c .before .before .«open» .ensures, c .before .command .ensures, c .command-number .ensures)
+returns c = command-said _ _ (c .before .before .«open» .ensures) _ _ (c .before .command .ensures) (c .command-number .ensures)
 
 pub jag-command-spec : {M : Type 1} → statement M
 jag-command-spec =

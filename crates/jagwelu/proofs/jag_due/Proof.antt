@@ -1,7 +1,5 @@
 -- `jagwelu::jag_due` meets its contract. Assumes nothing.
-use Rattle.held.specs.Answers.{dueNumbers}
-use Rattle.unit.specs.Calls.{dueReply}
-use mathlib.Core.Path.{ap, _∙_}
+use Rattle.jagwelu.proofs.Laws.{due-said}
 use borrow.Author.Needs.{needs}
 use Rattle.jagwelu.proofs.jag_due.Statement.{statement}
 use Rattle.jagwelu.proofs.jag_due.Tie as tie
@@ -16,7 +14,7 @@ due-answer-requires : tie.Need-due-answer-requires
 due-answer-requires c κs = search needs
 
 returns : tie.Need-returns
-returns c = c .due-answer .ensures ∙ ap dueNumbers (c .before .due .ensures .1 ∙ ap dueReply (c .before .before .«open» .ensures))
+returns c = due-said _ _ (c .before .before .«open» .ensures) _ _ (c .before .due .ensures) (c .due-answer .ensures)
 
 pub jag-due-spec : {M : Type 1} → statement M
 jag-due-spec = tie.close (tie.spec open-requires due-requires due-answer-requires returns)

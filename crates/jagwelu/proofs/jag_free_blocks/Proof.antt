@@ -1,4 +1,5 @@
 -- `jagwelu::jag_free_blocks` meets its contract. Assumes nothing.
+use Rattle.jagwelu.proofs.Laws.{free-said}
 use borrow.Author.Needs.{needs}
 use Rattle.jagwelu.proofs.jag_free_blocks.Statement.{statement}
 use Rattle.jagwelu.proofs.jag_free_blocks.Tie as tie
@@ -13,7 +14,7 @@ blocks-number-requires : tie.Need-blocks-number-requires
 blocks-number-requires c κs = search needs
 
 returns : tie.Need-returns
-returns c = simp (c .before .before .«open» .ensures, c .before .free-blocks .ensures, c .blocks-number .ensures)
+returns c = free-said _ _ (c .before .before .«open» .ensures) _ _ (c .before .free-blocks .ensures) (c .blocks-number .ensures)
 
 pub jag-free-blocks-spec : {M : Type 1} → statement M
 jag-free-blocks-spec =

@@ -1,4 +1,5 @@
 -- `jagwelu::jag_request` meets its contract. Assumes nothing.
+use Rattle.jagwelu.proofs.Laws.{request-said}
 use borrow.Author.Needs.{needs}
 use Rattle.jagwelu.proofs.jag_request.Statement.{statement}
 use Rattle.jagwelu.proofs.jag_request.Tie as tie
@@ -19,7 +20,7 @@ returns : tie.Need-returns
 returns c =
     let o = c .before .before .before .before .before .«open» .ensures in
     let w = c .before .before .before .request .ensures in
-    (simp (o, w .0, c .written-bytes .ensures), simp (o, w .1))
+    (request-said _ _ o _ _ _ _ (w .0) (c .written-bytes .ensures), simp (o, w .1))
 
 pub jag-request-spec : {M : Type 1} → statement M
 jag-request-spec =

@@ -8,8 +8,8 @@ use lib.ListN.{length, take, drop}
 use lib.Seq.{length-take-le}
 use Rattle.rules.specs.File.{readFile}
 use Rattle.rules.specs.Lister.{namePart, bodyPart, line}
-use Rattle.body.specs.declared.Reading.{Reading}
-use Rattle.body.specs.Reading.{readingOf}
+use Rattle.rules.specs.declared.Reading.{Reading}
+use Rattle.rules.specs.Reading.{readingOf}
 use Rattle.listing.specs.Line.{lineIn, textOf}
 use Rattle.listing.proofs.Split.{name-before, name-within, body-part}
 use Rattle.listing.proofs.Short.{read-small}

@@ -1,8 +1,13 @@
-use mathlib.Core.Path.{sym, _∙_}
+use mathlib.Core.Path.{sym, ap, _∙_}
+use mathlib.Core.List.{List}
 use mathlib.Core.Option.{none}
-use borrow.Author.Tests.{not-true, not-false}
+use Prim.Native.Nat.{ℕ}
+use denote.Ref.{now}
+use Rattle.rules.specs.Plant.{plantId}
+use Rattle.rules.specs.Reading.{readingOf}
+use Rattle.transfer.specs.Under.{underName}
 use Rattle.name.proofs.Laws.{read-broken, read-named}
-use Rattle.transfer.proofs.Laws.{no-name, other-plant, same-plant}
+use Rattle.transfer.proofs.Laws.{no-name, under-read}
 use borrow.Author.Needs.{needs}
 use Rattle.transfer.proofs.read.Statement.{statement}
 use Rattle.transfer.proofs.read.Tie as tie
@@ -28,20 +33,22 @@ slice-aggregate-is-plant-id c = search needs
 is-plant-id-requires : tie.Need-is-plant-id-requires
 is-plant-id-requires c κs = search needs
 
+slice-aggregate-read-under : tie.Need-slice-aggregate-read-under
+slice-aggregate-read-under c = search needs
+
+read-under-requires : tie.Need-read-under-requires
+read-under-requires c κs = search needs
+
 returns-2 : tie.Need-returns-2
 returns-2 c =
-    other-plant _ _ _ (read-named _ _ (sym (c .before .before .before .before .before .fields .given .1) ∙ c .before .before .before .before .before .before .before .read-name .ensures)) none _ (c .before .before .before .plant-digits .ensures) (sym (c .before .is-plant-id .ensures) ∙ not-true _ (c .if1 .taken))
-
-slice-aggregate-read-body : tie.Need-slice-aggregate-read-body
-slice-aggregate-read-body c = search needs
-
-read-body-requires : tie.Need-read-body-requires
-read-body-requires c κs = search needs
-
-returns-3 : tie.Need-returns-3
-returns-3 c =
-    c .read-body .ensures
-    ∙ same-plant _ _ _ (read-named _ _ (sym (c .before .before .before .before .before .before .before .fields .given .1) ∙ c .before .before .before .before .before .before .before .before .before .read-name .ensures)) none _ (c .before .before .before .before .before .plant-digits .ensures) (sym (c .before .before .before .is-plant-id .ensures) ∙ not-false _ (c .before .before .if1 .left))
+    let name = now (c .before .before .before .before .before .before .before .before .before .before .before .args .name) in
+    let body = now (c .before .before .before .before .before .before .before .before .before .before .before .args .body) in
+    let fields = c .before .before .before .before .before .before .fields .given in
+    let digits = c .before .before .before .before .plant-digits in
+    let checked = c .before .before .is-plant-id in
+    c .read-under .ensures
+    ∙ ap (λ (x : List ℕ). readingOf (underName (checked .result) (fields .0 .0) x body)) (digits .ensures)
+    ∙ under-read name body (fields .0 .0) (read-named _ _ (sym (fields .1) ∙ c .before .before .before .before .before .before .before .before .read-name .ensures)) none _ (checked .ensures ∙ ap plantId (digits .ensures))
 
 pub read-spec : {M : Type 1} → statement M
 read-spec =
@@ -54,7 +61,6 @@ read-spec =
     plant-digits-requires
     slice-aggregate-is-plant-id
     is-plant-id-requires
-    returns-2
-    slice-aggregate-read-body
-    read-body-requires
-    returns-3)
+    slice-aggregate-read-under
+    read-under-requires
+    returns-2)

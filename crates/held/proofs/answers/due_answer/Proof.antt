@@ -1,6 +1,4 @@
 -- `held::answers::due_answer` meets its contract. Assumes nothing.
-use Rattle.rules.specs.declared.Due.{Due}
-use Rattle.rules.specs.Causes.{ofDue}
 use Rattle.held.specs.Answers.{dueNumbers}
 use mathlib.Core.Path.{sym, ap}
 use borrow.Author.Needs.{needs}
@@ -26,16 +24,16 @@ cause-number-requires : tie.Need-cause-number-requires
 cause-number-requires c κs = search needs
 
 returns : tie.Need-returns
-returns c = ap (λ (d : Due). dueNumbers (ofDue d)) (sym (c .enum-told .given .1))
+returns c = ap dueNumbers (sym (c .enum-told .given .1))
 
 returns-2 : tie.Need-returns-2
-returns-2 c = ap (λ (d : Due). dueNumbers (ofDue d)) (sym (c .before .due .given .1))
+returns-2 c = ap dueNumbers (sym (c .before .due .given .1))
 
 returns-3 : tie.Need-returns-3
-returns-3 c = ap (λ (d : Due). dueNumbers (ofDue d)) (sym (c .enum-told2 .given .1))
+returns-3 c = ap dueNumbers (sym (c .enum-told2 .given .1))
 
 returns-4 : tie.Need-returns-4
-returns-4 c = rw (c .cause-number .ensures) (ap (λ (d : Due). dueNumbers (ofDue d)) (sym (c .before .before .due2 .given .1)))
+returns-4 c = rw (c .cause-number .ensures) (ap dueNumbers (sym (c .before .before .due2 .given .1)))
 
 pub due-answer-spec : {M : Type 1} → statement M
 due-answer-spec =

@@ -1,23 +1,23 @@
 use borrow.Author.Tests.{le-leb, lt-leb}
-use Rattle.rules.specs.Machine.{dueOf}
+use Rattle.requests.specs.Due.{dueFor}
 use borrow.Author.Needs.{needs}
 use Rattle.requests.proofs.Requests.due.Statement.{statement}
 use Rattle.requests.proofs.Requests.due.Tie as tie
 
 returns : tie.Need-returns
-unfolding dueOf
+unfolding dueFor
 returns c = rw (le-leb _ _ (c .if1 .taken))
 
 in-window-requires : tie.Need-in-window-requires
 in-window-requires c κs = search needs
 
 returns-2 : tie.Need-returns-2
-unfolding dueOf
+unfolding dueFor
 returns-2 c =
     rw (lt-leb _ _ (c .before .before .before .before .before .if1 .left), ← c .before .in-window .ensures, c .if2 .taken)
 
 returns-3 : tie.Need-returns-3
-unfolding dueOf
+unfolding dueFor
 returns-3 c =
     rw (lt-leb _ _ (c .before .before .before .before .before .if1 .left), ← c .before .in-window .ensures, c .if2 .left)
 

@@ -1,45 +1,19 @@
 -- `unit::Unit::request` meets its contract. Assumes nothing.
-use mathlib.Core.Path.{sym, _∙_}
-use denote.Ref.{now}
-use borrow.Author.Tests.{not-true, not-false}
-use Rattle.unit.proofs.RequestLaws.{request-unsound, request-sound}
+use mathlib.Core.Path.{refl}
 use borrow.Author.Needs.{needs}
 use Rattle.unit.proofs.Unit.request.Statement.{statement}
 use Rattle.unit.proofs.Unit.request.Tie as tie
 
-sound-requires : tie.Need-sound-requires
-sound-requires c κs = search needs
-
-returns : tie.Need-returns
-returns c = request-unsound _ _ _ (sym (c .before .sound .ensures) ∙ not-true _ (c .if1 .taken))
-
-slice-aggregate-request : tie.Need-slice-aggregate-request
-slice-aggregate-request c = search needs
-
-slice-aggregate-request-2 : tie.Need-slice-aggregate-request-2
-slice-aggregate-request-2 c = search needs
-
-request-requires : tie.Need-request-requires
-request-requires c κs = search needs
+request-answer-requires : tie.Need-request-answer-requires
+request-answer-requires c κs = search needs
 
 same-length : tie.Need-same-length
 same-length c = search needs
 
-returns-2 : tie.Need-returns-2
-returns-2 c =
-    let q = c .before .before in
-    let e = q .before .before .before .before .before .before .before in
-    let a = e .before .before .before .before .args in
-    request-sound (a .self) (now (a .segment)) (now (a .out)) (sym (e .before .sound .ensures) ∙ not-false _ (e .if1 .left)) _ _ (q .request .ensures .0) (q .request .ensures .1)
+returns : tie.Need-returns
+returns c =
+    let written = c .before .before .request-answer .ensures in
+    rw (written .0) (refl, written .1)
 
 pub request-spec : {M : Type 1} → statement M
-request-spec =
-    tie.close
-    (tie.spec
-    sound-requires
-    returns
-    slice-aggregate-request
-    slice-aggregate-request-2
-    request-requires
-    same-length
-    returns-2)
+request-spec = tie.close (tie.spec request-answer-requires same-length returns)

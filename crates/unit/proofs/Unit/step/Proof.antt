@@ -63,11 +63,17 @@ enum-told-3 c = search needs
 due-requires : tie.Need-due-requires
 due-requires c κs = search needs
 
+due-replied-requires : tie.Need-due-replied-requires
+due-replied-requires c κs = search needs
+
 enum-known-call-3 : tie.Need-enum-known-call-3
 enum-known-call-3 c = search needs
 
 ceiling-requires : tie.Need-ceiling-requires
 ceiling-requires c κs = search needs
+
+ceiling-replied-requires : tie.Need-ceiling-replied-requires
+ceiling-replied-requires c κs = search needs
 
 enum-told-4 : tie.Need-enum-told-4
 enum-told-4 c = search needs
@@ -75,11 +81,17 @@ enum-told-4 c = search needs
 command-requires : tie.Need-command-requires
 command-requires c κs = search needs
 
+command-replied-requires : tie.Need-command-replied-requires
+command-replied-requires c κs = search needs
+
 enum-told-5 : tie.Need-enum-told-5
 enum-told-5 c = search needs
 
 free-blocks-requires : tie.Need-free-blocks-requires
 free-blocks-requires c κs = search needs
+
+free-replied-requires : tie.Need-free-replied-requires
+free-replied-requires c κs = search needs
 
 same-length : tie.Need-same-length
 same-length c = search needs
@@ -103,19 +115,19 @@ returns-4 : tie.Need-returns-4
 returns-4 c = let k = c .before .before .before .before .before in failure-step (unit k) (store k) (name k) (body k) _ _ _ (c .answered4 .ensures) _ _ (c .before .before .before .call2 .given .1) (c .before .failure .ensures)
 
 returns-5 : tie.Need-returns-5
-returns-5 c = let k = c .before .before .before in due-step (unit k) (store k) (name k) (body k) _ (c .before .enum-told3 .given .1) (c .due .result .answer) (c .due .ensures .1)
+returns-5 c = let k = c .before .before .before .before in due-step (unit k) (store k) (name k) (body k) _ _ _ (c .due-replied .ensures) (c .before .before .enum-told3 .given .1) (c .before .due .ensures)
 
 same-length-3 : tie.Need-same-length-3
 same-length-3 c = search needs
 
 returns-6 : tie.Need-returns-6
-returns-6 c = let k = c .before .before .before .before .before in ceiling-step (unit k) (store k) (name k) (body k) _ _ (c .before .before .before .call3 .given .1) _ (c .ceiling .ensures)
+returns-6 c = let k = c .before .before .before .before .before .before in ceiling-step (unit k) (store k) (name k) (body k) _ _ _ (c .ceiling-replied .ensures) _ (c .before .before .before .before .call3 .given .1) (c .before .ceiling .ensures)
 
 returns-7 : tie.Need-returns-7
-returns-7 c = let k = c .before .before .before in command-step (unit k) (store k) (name k) (body k) _ (c .before .enum-told4 .given .1) _ (c .command .ensures)
+returns-7 c = let k = c .before .before .before .before in command-step (unit k) (store k) (name k) (body k) _ _ _ (c .command-replied .ensures) (c .before .before .enum-told4 .given .1) (c .before .command .ensures)
 
 returns-8 : tie.Need-returns-8
-returns-8 c = let k = c .before .before .before in free-step (unit k) (store k) (name k) (body k) _ (c .before .enum-told5 .given .1) _ (c .free-blocks .ensures)
+returns-8 c = let k = c .before .before .before .before in free-step (unit k) (store k) (name k) (body k) _ _ _ (c .free-replied .ensures) (c .before .before .enum-told5 .given .1) (c .before .free-blocks .ensures)
 
 pub step-spec : {M : Type 1} → statement M
 step-spec =
@@ -135,12 +147,16 @@ step-spec =
     answered-requires-4
     enum-told-3
     due-requires
+    due-replied-requires
     enum-known-call-3
     ceiling-requires
+    ceiling-replied-requires
     enum-told-4
     command-requires
+    command-replied-requires
     enum-told-5
     free-blocks-requires
+    free-replied-requires
     same-length
     returns
     returns-2

@@ -6,8 +6,8 @@ use borrow.Author.Tests.{not-true, not-false}
 use denote.Ref.{now}
 use Rattle.rules.specs.File.{takeFile}
 use Rattle.rules.specs.Store.{storeLength}
-use Rattle.body.specs.Reading.{readingOf}
-use Rattle.body.specs.declared.Reading.the-variants.{Read}
+use Rattle.rules.specs.Reading.{readingOf}
+use Rattle.rules.specs.declared.Reading.the-variants.{Read}
 use Rattle.schedule.specs.Stored.{storeHolds}
 use Rattle.unit.specs.Values.{isSound}
 use Rattle.unit.proofs.TakeLaws.{take-length, take-unsound, take-unset, take-refused, take-full, take-done, read-room, read-following}

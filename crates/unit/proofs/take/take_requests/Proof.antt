@@ -1,5 +1,6 @@
 -- `take::take_requests` meets its contract, format by format. Assumes nothing.
-use mathlib.Core.Path.{refl}
+use mathlib.Core.Path.{refl, ap}
+use Rattle.requests.specs.Requests.{requestsOf}
 use borrow.Author.Needs.{needs}
 use Rattle.unit.proofs.take.take_requests.Statement.{statement}
 use Rattle.unit.proofs.take.take_requests.Tie as tie
@@ -26,13 +27,13 @@ enum-told-4 : tie.Need-enum-told-4
 enum-told-4 c = search needs
 
 returns : tie.Need-returns
-returns c = rw (c .before .before .enum-told .given .1) (c .take-year .ensures)
+returns c = rw (c .before .before .enum-told .given .1) (ap requestsOf (c .take-year .ensures))
 
 returns-2 : tie.Need-returns-2
 returns-2 c = rw (c .enum-told2 .given .1) refl
 
 returns-3 : tie.Need-returns-3
-returns-3 c = rw (c .before .enum-told3 .given .1) (c .take-update .ensures)
+returns-3 c = rw (c .before .enum-told3 .given .1) (ap requestsOf (c .take-update .ensures))
 
 returns-4 : tie.Need-returns-4
 returns-4 c = rw (c .enum-told4 .given .1) refl

@@ -1,0 +1,64 @@
+-- Laws of a body that stands: what its tests say, and that it is a body that parses.
+-- Assumes nothing.
+use Prim.Native.Nat.{ℕ, _-_, _≤_}
+use mathlib.Core.Path.{_≡_, _∙_, refl, sym, ap}
+use mathlib.Core.Bool.{Bool, true, false, cond, _&&_, false≢true}
+use mathlib.Core.List.{List}
+use mathlib.Core.Option.{Option, none, some, Option·map}
+use lib.Dec.{leb}
+use lib.ListN.{length, take, drop}
+use borrow.Author.Tests.{leb-true}
+use Rattle.rules.specs.Digits.{part, allDigits}
+use Rattle.rules.specs.Body.{Record, Body, schedule, countOf, parseRecords, parseRest, parseBody, counted, isSchedule}
+use Rattle.rules.specs.declared.Format.{Format}
+use Rattle.rules.specs.declared.Format.the-variants.{F201, F202, F203, F301}
+use Rattle.digits.proofs.Scan.{part-rest}
+use Rattle.body.specs.Walk.{shaped, recordsFrom}
+use Rattle.body.proofs.Parts.{both}
+use Rattle.body.proofs.Walk.{parse-is}
+use Rattle.records.specs.Standing.{standing, Stands}
+
+module _ (f : Format) (body : List ℕ) where
+  pub count-room : counted f body ≡ true → 6 ≤ length body
+  unfolding counted
+  count-room e = leb-true 6 (length body) (both (leb 6 (length body)) (allDigits (part body 0 6)) (both _ _ e .0) .0)
+
+  pub not-counted : counted f body ≡ false → false ≡ standing f body
+  not-counted e = rw e refl
+
+  pub is-standing : {b : Bool} → counted f body ≡ true → b ≡ shaped f (countOf f) (take (length body - 6) (drop 6 body)) → b ≡ standing f body
+  is-standing c e = e ∙ rw (part-rest body 6, c) refl
+
+  pub stands-facts : standing f body ≡ true → Stands f body
+  stands-facts e =
+      let b = both (counted f body) (shaped f (countOf f) (drop 6 body)) e in
+      record { counts = b .0; records = b .1 }
+
+  -- the records of a body that stands
+  abbrev pub recordsAt : List Record
+  recordsAt = recordsFrom f (countOf f) (drop 6 body)
+
+rest-is : (f : Format) (s : List ℕ) → isSchedule f ≡ true
+    → parseRest f s ≡ Option·map schedule (cond (shaped f (countOf f) s) (some (recordsFrom f (countOf f) s)) none)
+rest-is F201 s i = ap (Option·map schedule) (parse-is F201 13 s)
+rest-is F202 s i = ap (Option·map schedule) (parse-is F202 1 s)
+rest-is F203 s i = ap (Option·map schedule) (parse-is F203 1 s)
+rest-is F301 s i = absurd (false≢true i)
+
+-- a schedule's body parses where it stands
+pub parse-standing : (f : Format) (body : List ℕ) → isSchedule f ≡ true
+    → parseBody f body ≡ cond (standing f body) (some (schedule (recordsAt f body))) none
+unfolding parseBody
+parse-standing f body i = rw (rest-is f (drop 6 body) i) (go (counted f body) (shaped f (countOf f) (drop 6 body)) (recordsAt f body))
+  where
+    go : (c t : Bool) (rs : List Record) → cond c (Option·map schedule (cond t (some rs) none)) none ≡ cond (c && t) (some (schedule rs)) none
+    go false t rs = refl
+    go true false rs = refl
+    go true true rs = refl
+
+module _ (f : Format) (body : List ℕ) (i : isSchedule f ≡ true) where
+  pub parses-not : standing f body ≡ false → parseBody f body ≡ none
+  parses-not e = parse-standing f body i ∙ rw e refl
+
+  pub parses-as : standing f body ≡ true → parseBody f body ≡ some (schedule (recordsAt f body))
+  parses-as e = parse-standing f body i ∙ rw e refl

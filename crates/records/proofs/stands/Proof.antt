@@ -1,0 +1,42 @@
+-- `stands` meets its contract. Assumes nothing.
+use mathlib.Core.Path.{_∙_, sym}
+use borrow.Author.Needs.{needs}
+use borrow.Author.Tests.{not-true, not-false}
+use Rattle.records.proofs.Bodies.{count-room, not-counted, is-standing}
+use Rattle.records.proofs.stands.Statement.{statement}
+use Rattle.records.proofs.stands.Tie as tie
+
+count-holds-requires : tie.Need-count-holds-requires
+count-holds-requires c κs = search needs
+
+returns : tie.Need-returns
+returns c = not-counted _ _ (sym (c .before .count-holds .ensures) ∙ not-true _ (c .if1 .taken))
+
+sub-records-stand : tie.Need-sub-records-stand
+sub-records-stand c = count-room _ _ (sym (c .before .count-holds .ensures) ∙ not-false _ (c .if1 .left))
+
+part-records-stand-start : tie.Need-part-records-stand-start
+part-records-stand-start c = count-room _ _ (sym (c .before .count-holds .ensures) ∙ not-false _ (c .if1 .left))
+
+part-records-stand-end : tie.Need-part-records-stand-end
+part-records-stand-end c = search needs
+
+records-stand-requires : tie.Need-records-stand-requires
+records-stand-requires c κs = search needs
+
+returns-2 : tie.Need-returns-2
+returns-2 c =
+    let e = c .before .before in
+    is-standing _ _ (sym (e .before .count-holds .ensures) ∙ not-false _ (e .if1 .left)) (c .records-stand .ensures)
+
+pub stands-spec : {M : Type 1} → statement M
+stands-spec =
+    tie.close
+    (tie.spec
+    count-holds-requires
+    returns
+    sub-records-stand
+    part-records-stand-start
+    part-records-stand-end
+    records-stand-requires
+    returns-2)

@@ -1,0 +1,4 @@
+pub mod Records
+pub mod Written
+pub mod Again
+pub mod Unread
