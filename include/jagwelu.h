@@ -225,7 +225,8 @@ struct jag_file jag_read_for(const uint8_t *plant, size_t plant_length, const ui
                              const uint8_t *body, size_t body_length);
 
 /* A body taken apart. Where the fields of a record stand, the first record being 0: 6 for an index not below the format's record count
- * (201: 13, else 1), 7 for a format that is not 201 to 203, 9 for a body that breaks its form; nothing else of the body is judged. */
+ * (201: 13; 202, 203 and 301: 1), 7 for a format that is not 201 to 203 (a number that is no format's, whatever the index), 9 for a body
+ * that breaks its form; nothing else of the body is judged. */
 struct jag_places jag_record(uint32_t format, const uint8_t *body, size_t body_length, size_t index);
 
 /* The rates of all its records end to end, as jag_write_body takes them: 7, 9, 15. */

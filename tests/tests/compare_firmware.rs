@@ -72,10 +72,13 @@ fn registrations_for_a_plant() {
     tally.settle(&[7, 8]);
 }
 
-/// The places of one record, or the cause: 6 where there is no such record.
+/// The places of one record, or the cause: 6 where the format has no such
+/// record. A number that is no format's has no record count to be past.
 fn places(format: u32, body: &[u8], index: usize) -> Result<Places, u8> {
-    if index >= if format == 201 { 13 } else { 1 } {
-        return Err(6);
+    match format {
+        201 if index >= 13 => return Err(6),
+        202 | 203 | 301 if index >= 1 => return Err(6),
+        _ => {}
     }
     let record = take_apart(format, body)?[index];
     Ok(Places {
