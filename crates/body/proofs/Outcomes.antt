@@ -2,14 +2,14 @@
 -- Assumes nothing.
 use Prim.Native.Nat.{ℕ, _-_, _%_, _≤_}
 use mathlib.Core.Path.{_≡_, _∙_, refl, sym, ap}
-use mathlib.Core.Bool.{Bool, true, false, cond, false≢true, _&&_}
-use mathlib.Core.List.{List, [], _∷_}
+use mathlib.Core.Bool.{Bool, true, false, cond, false≢true}
+use mathlib.Core.List.{List, []}
 use mathlib.Core.Option.{Option, none, some, Option·map}
-use native.Mathlib.Omega.{arith}
+
 use lib.Dec.{leb, eqb}
 use lib.ListN.{length, getD, take, drop}
 use borrow.Author.Tests.{leb-true, eqb-true}
-use Rattle.rules.specs.Digits.{part, allAtMost, allDigits, digits, valueFrom, value, decimal, sameBytes}
+use Rattle.rules.specs.Digits.{part, allDigits, sameBytes}
 use Rattle.rules.specs.Name.{Name}
 use Rattle.rules.specs.Body.{Record, Body, schedule, registration, countOf, parseRegistration, parseRest, parseBody, counted, every, isSchedule}
 use Rattle.rules.specs.File.{File, file, need, recordDates, datesHold, ratesHold, checksumsHold, plantsHold, stages, withBody}
@@ -196,34 +196,3 @@ module _ (f : Format) (segment plant here there : List ℕ) where
   created-free (some b) = body-free b
 
 -- ---- a name's segment as a number
-
-digit-list : {a b c d v w x y : ℕ} → v ≡ a → w ≡ b → x ≡ c → y ≡ d → _≡_ {A = List ℕ} (v ∷ w ∷ x ∷ y ∷ []) (a ∷ b ∷ c ∷ d ∷ [])
-digit-list p q r s = cc
-
-four-digits : (s : List ℕ) → digits 4 s ≡ true → decimal 4 (value s) ≡ s
-unfolding decimal valueFrom allAtMost
-four-digits [] e = absurd (false≢true e)
-four-digits (a ∷ []) e = absurd (false≢true e)
-four-digits (a ∷ b ∷ []) e = absurd (false≢true e)
-four-digits (a ∷ b ∷ c ∷ []) e = absurd (false≢true e)
-four-digits (a ∷ b ∷ c ∷ d ∷ []) e =
-    let e₁ = both (leb a 9) (leb b 9 && (leb c 9 && (leb d 9 && true))) e in
-    let e₂ = both (leb b 9) (leb c 9 && (leb d 9 && true)) (e₁ .1) in
-    let e₃ = both (leb c 9) (leb d 9 && true) (e₂ .1) in
-    let e₄ = both (leb d 9) true (e₃ .1) in
-    let a₉ = leb-true a 9 (e₁ .0) in
-    let b₉ = leb-true b 9 (e₂ .0) in
-    let c₉ = leb-true c 9 (e₃ .0) in
-    let d₉ = leb-true d 9 (e₄ .0) in
-    digit-list (omega arith) (omega arith) (omega arith) (omega arith)
-four-digits (a ∷ b ∷ c ∷ d ∷ x ∷ s) e =
-    let five = a ∷ b ∷ c ∷ d ∷ x ∷ s in
-    let l = eqb-true (length five) 4 (both (eqb (length five) 4) (allDigits five) e .0) in
-    absurd (omega arith)
-
--- so `read_body` speaks of every name: of its segment the number alone matters
-pub name-free : (n : Name) (b : Option Body) → digits 4 (n .segment) ≡ true
-    → readingOf (withBody n b) ≡ readingOf (withBody (nameOf (n .format) (value (n .segment)) (n .plant)) b)
-name-free n b d =
-    created-free (n .format) (n .segment) (n .plant) (n .created) [] b
-    ∙ ap (λ (l : List ℕ). readingOf (withBody (record { format = n .format; segment = l; plant = n .plant; created = [] }) b)) (sym (four-digits (n .segment) d))

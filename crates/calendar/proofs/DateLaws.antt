@@ -179,13 +179,6 @@ pub at-some : (o : Option ℕ) (t : ℕ) → At t ≡ momentOf o → o ≡ some 
 at-some none t e = let x : _≡_ {A = ℕ} 0 1 = cc in absurd (omega arith)
 at-some (some k) t e = cc
 
--- a date that digits stand for lies before the end of 2099
-pub moment-below : (s : List ℕ) (t : ℕ) → moment s ≡ some t → t < 3155760000
-unfolding moment
-moment-below s t e =
-    let r = cond-some (digits 14 s && exists s) (secondsOf s) t e in
-    omega (arith, exists-below s (both (digits 14 s) (exists s) (r .0) .1), r .1)
-
 pub start-below : (s : List ℕ) (k : ℕ) → startSlot s ≡ some k → k < 1753200
 unfolding startSlot
 start-below s k e =

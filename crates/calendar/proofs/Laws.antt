@@ -2,14 +2,14 @@
 -- Assumes nothing.
 use Prim.Native.Nat.{ℕ, zero, suc, _+_, _-_, _*_, _/_, _%_, _≤_, _<_}
 use mathlib.Core.Path.{_≡_, refl, sym, ap, _∙_}
-use mathlib.Core.Bool.{Bool, true, false, cond, not, _&&_, _||_}
+use mathlib.Core.Bool.{Bool, true, false, cond, _&&_}
 use native.Mathlib.Omega.{arith}
 use native.Mathlib.Nat.{add-suc, add-zero, zero-add}
-use lib.Dec.{leb, ltb, eqb}
+use lib.Dec.{leb, ltb}
 use borrow.Author.Tests.{le-ltb, ltb-true, ltb-false, leb-true, leb-false}
-use Rattle.rules.specs.Calendar.{leapYear, daysOfMonth, slotsOfMonth, firstDay, firstSlot, monthFrom, monthOfDay, monthOfSlot, slotOf, monthOf}
+use Rattle.rules.specs.Calendar.{daysOfMonth, slotsOfMonth, firstDay, firstSlot, monthFrom, monthOfDay, monthOfSlot, slotOf, monthOf}
 use Rattle.calendar.specs.Cycle.{every, Within}
-use Rattle.calendar.proofs.Tests.{both, same, same-true, every-at}
+use Rattle.calendar.proofs.Tests.{both, every-at}
 
 -- ---- four years: 48 months, 1,461 days
 
@@ -188,14 +188,3 @@ pub month-slot : (t : ℕ) → monthOf t ≡ monthOfSlot (slotOf t)
 month-slot t = let e : t / 86400 ≡ t / 1800 / 48 = omega arith in ap monthOfDay e
 
 -- ---- the leap rule
-
--- the Gregorian rule: every fourth year, of the years that end in 00 every fourth
-abbrev pub gregorianLeap : ℕ → Bool
-gregorianLeap year = eqb (year % 4) 0 && not (eqb (year % 100) 0) || eqb (year % 400) 0
-
-pub leap-gregorian : (year : ℕ) → 2000 ≤ year → year ≤ 2099 → leapYear year ≡ gregorianLeap year
-unfolding every
-leap-gregorian year from until =
-    let place : year ≡ 2000 + (year - 2000) = omega arith in
-    rw place
-    (same-true _ _ (every-at 100 (λ k. same (leapYear (2000 + k)) (gregorianLeap (2000 + k))) refl (year - 2000) (omega arith)))

@@ -2,7 +2,7 @@
 -- Assumes nothing.
 use Prim.Native.Nat.{ℕ, zero, suc, _<_}
 use mathlib.Core.Path.{_≡_, refl}
-use mathlib.Core.Bool.{Bool, true, false, cond, not, _&&_, false≢true}
+use mathlib.Core.Bool.{Bool, true, false, _&&_, false≢true}
 use native.Mathlib.Nat.{not-suc-le-zero}
 use native.Mathlib.Omega.{arith}
 use lib.Dec.{eqb}
@@ -12,16 +12,6 @@ use Rattle.calendar.specs.Cycle.{every}
 pub both : (a b : Bool) → (a && b) ≡ true → (a ≡ true) × (b ≡ true)
 both true b e = (refl, e)
 both false b e = absurd (false≢true e)
-
--- whether two tests agree
-abbrev pub same : Bool → Bool → Bool
-same a b = cond a b (not b)
-
-pub same-true : (a b : Bool) → same a b ≡ true → a ≡ b
-same-true true true e = refl
-same-true true false e = absurd (false≢true e)
-same-true false true e = absurd (false≢true e)
-same-true false false e = refl
 
 pub every-at : (n : ℕ) (f : ℕ → Bool) → every n f ≡ true → (k : ℕ) → k < n → f k ≡ true
 unfolding every

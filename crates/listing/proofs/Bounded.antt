@@ -1,5 +1,5 @@
 -- The lister needs to read no more than `enough` bytes of its input: the line is the same, for every input.
-use Prim.Native.Nat.{ℕ, zero, suc, _+_, _-_, _≤_, _<_}
+use Prim.Native.Nat.{ℕ, zero, suc, _+_, _-_, _<_}
 use mathlib.Core.Path.{_≡_, _∙_, refl, sym, ap, ap₂}
 use mathlib.Core.Bool.{Bool, true, false, cond}
 use mathlib.Core.List.{List, [], _∷_}
@@ -8,7 +8,7 @@ use native.Mathlib.Omega.{arith}
 use borrow.Author.Tests.{leb-true, leb-false, eqb-true, eqb-false, ne-eqb}
 use lib.Dec.{leb, eqb, lit<}
 use lib.ListN.{length, take, length-take}
-use lib.Seq.{take-all, take-nil, take-take}
+use lib.Seq.{take-all, take-nil}
 use Rattle.rules.specs.Name.{Name, nameLength, nameShape, parseName}
 use Rattle.rules.specs.Body.{Body, parseBody}
 use Rattle.rules.specs.File.{refuse, need, idFits, withBody, withName, readFile}
@@ -95,10 +95,3 @@ line-bounded x = ap lineOf (go (eqb (length (namePart x)) nameLength) refl)
         let d = eqb-false (length (namePart x)) nameLength h in
         unnamed none (namePart (take enough x)) (bodyPart (take enough x)) (still-other enough x (lit< tt) d)
         ∙ sym (unnamed none (namePart x) (bodyPart x) d)
-
--- so it is the same from any number of bytes that is enough
-pub line-enough : (k : ℕ) (x : List ℕ) → enough ≤ k → line (take k x) ≡ line x
-line-enough k x h = sym (line-bounded (take k x)) ∙ ap line (take-take enough k x h) ∙ line-bounded x
-
-pub enough-is : enough ≡ 1300765
-enough-is = refl

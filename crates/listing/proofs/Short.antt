@@ -15,15 +15,14 @@ use Rattle.rules.specs.Name.{Name, formatNumber, parseName}
 use Rattle.rules.specs.Body.{Record, Body, schedule, registration, parseRecords, parseRegistration, parseRest, counted, parseBody}
 use Rattle.rules.specs.File.{Outcome, refuse, file, need, idFits, monthBegins, wholeMonth, monthsFrom, firstMonth, recordDates, datesHold, ratesHold, checksumsHold, plantsHold, stages, withBody, withName, readFile}
 use Rattle.rules.specs.Causes.{numberOf}
-use Rattle.rules.specs.Lister.{totalRates, recordCount, rateCount, namePart, bodyPart, lineOf, line}
+use Rattle.rules.specs.Lister.{totalRates, recordCount, rateCount}
 use Rattle.rules.specs.declared.Cause.{Cause}
 use Rattle.rules.specs.declared.Format.{Format}
 use Rattle.rules.specs.declared.Format.the-variants.{F201, F202, F203, F301}
 use Rattle.exact.proofs.Booleans.{both}
 use Rattle.exact.proofs.Calendar.{days-most}
-use Rattle.listing.specs.Line.{okText, refusedText}
+
 use Rattle.listing.proofs.Parsed.{nothing, parsed}
-use Rattle.listing.proofs.Texts.{ok-short, refused-short}
 
 pub format-small : (f : Format) → formatNumber f < 1000
 format-small F201 = lit< tt
@@ -120,12 +119,3 @@ read-small plant name body = named (parseName name)
     named (some n) = need-small (idFits plant (n .plant)) Cause.OtherPlant _ (λ _. staged n (parseBody (n .format) body) refl)
 
 -- ---- the line
-
-line-of-short : (o : Outcome) → SmallFile o → length (lineOf o) ≤ 16
-unfolding lineOf okText refusedText
-line-of-short (refuse c) h = omega (arith, refused-short (numberOf c) (cause-small c))
-line-of-short (file f) h = ok-short (formatNumber (f .name .format)) (recordCount (f .body)) (rateCount (f .body)) (format-small (f .name .format)) (h .0) (h .1)
-
-pub line-short : (x : List ℕ) → length (line x) ≤ 16
-unfolding line
-line-short x = line-of-short (readFile none (namePart x) (bodyPart x)) (read-small none (namePart x) (bodyPart x))

@@ -7,7 +7,7 @@ use mathlib.Core.List.{List, [], _∷_}
 use mathlib.Core.Option.{Option, none, some}
 use native.Mathlib.Omega.{arith}
 use lib.Dec.{leb, eqb}
-use lib.ListN.{length, drop, replicate, length-map, length-drop}
+use lib.ListN.{length, drop, length-map, length-drop}
 use lib.Seq.{length-take-le}
 use borrow.Author.Tests.{eqb-true, leb-true, le-leb, eq-eqb, ne-eqb}
 use Rattle.rules.specs.Digits.{part, digits, allAtMost, allDigits, value, valueFrom, allAscii, fromAscii, sameBytes}
@@ -246,14 +246,6 @@ parsed s n e = go (nameShape s) refl (formatOf (value (fromAscii (part s 0 3))))
 pub plant-is : (s : List ℕ) (n : Name) → parseName s ≡ some n → plantDigits s ≡ n .plant
 unfolding plantDigits
 plant-is s n e = let t = parsed s n e in rw (eq-eqb (length s) 55 (t .long)) (sym (t .plant))
-
-pub plant-length : (s : List ℕ) → length (plantDigits s) ≡ 26
-unfolding plantDigits
-plant-length s = go (eqb (length s) 55) refl
-  where
-    go : (b : Bool) → eqb (length s) 55 ≡ b → length (cond b (fromAscii (part s 9 26)) (replicate 26 0)) ≡ 26
-    go true h = let l = eqb-true (length s) 55 h in simp length-map (part-length s 9 26 (omega arith))
-    go false h = refl
 
 -- ---- the answer
 

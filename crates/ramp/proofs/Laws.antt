@@ -122,11 +122,6 @@ module _ (s : Settings) (p : Pool) (store : List ℕ) where
   commandOver-full n c x h legal =
       commandOver-most (fullCommand s) n c x h (λ t a b. parts-most s (orZero (storedRate p store (slotOf t))) (legal t a b))
 
--- a rate that a sound store gives is legal, and so is none
-pub legal-rate : (o : Option ℕ) → ((r : ℕ) → o ≡ some r → r ≤ 100) → orZero o ≤ 100
-legal-rate none h = zero-le
-legal-rate (some r) h = h r refl
-
 -- only the slots of these seconds are read
 pub commandOver-same : (s : Settings) (p q : Pool) (store other : List ℕ) (n c x : ℕ)
     → ((t : ℕ) → c < t → t ≤ c + n → storedRate p store (slotOf t) ≡ storedRate q other (slotOf t))

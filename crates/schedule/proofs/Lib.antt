@@ -3,5 +3,3 @@ pub mod RateLaws
 pub mod PutLaws
 pub mod StoreLaws
 pub mod MissingLaws
-pub mod Laws
-pub mod AfterLaws

@@ -145,9 +145,3 @@ module _ (u : Unit) (store : List ℕ) (good : SoundWith u store) where
       rw (second-is store c u (pool-sound u (good .unit)))
       (jumped-sound (suc c) (approach (target settings rate) (u .command)) l
       (approach-most (target settings rate) (u .command) (fullCommand settings) (parts-most settings (orZero rate) legal) full))
-
-pub seconds-keep : (store : List ℕ) (n c : ℕ) (u : Unit) → SoundWith u store → c + n < endOfTime → SoundWith (seconds store n c u) store
-unfolding seconds
-seconds-keep store zero c u good l = good
-seconds-keep store (suc n) c u good l =
-    seconds-keep store n (suc c) (second store (suc c) u) (second-keeps u store good c (omega arith)) (omega arith)

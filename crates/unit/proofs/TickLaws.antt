@@ -26,7 +26,7 @@ use Rattle.unit.specs.declared.Clock.{Clock}
 use Rattle.unit.specs.declared.Clock.the-variants.{Unset, At}
 use Rattle.unit.proofs.LentLaws.{lent-row}
 use Rattle.unit.proofs.SoundParts.{SoundWith}
-use Rattle.unit.proofs.Seconds.{jumped, seconds-once, few, low, clock-sound, seconds-keep}
+use Rattle.unit.proofs.Seconds.{jumped, seconds-once, few, low}
 
 -- ---- the unit after a tick
 
@@ -49,19 +49,6 @@ module _ (u : Unit) (good : isSound u ≡ true) where
   pub ticked-jump : (store : List ℕ) (t : ℕ) → ticked store t u ≡ jumped u t (commandAt (u .clock) u store t)
   unfolding ticked
   ticked-jump store t = from-clock store t (u .clock)
-
--- a tick leaves a sound unit sound, and the store sound with it
-pub ticked-sound : (u : Unit) (store : List ℕ) (t : ℕ) → SoundWith u store → t < endOfTime → SoundWith (ticked store t u) store
-unfolding ticked
-ticked-sound u store t good l = from (u .clock)
-  where
-    from : (k : Clock) → SoundWith (tickFrom store t k u) store
-    from Unset = clock-sound u store good t l
-    from (At c) = go (leb t c) refl
-      where
-        go : (x : Bool) → leb t c ≡ x → SoundWith (cond x (setClock t u) (seconds store (t - c) c u)) store
-        go true e = clock-sound u store good t l
-        go false e = seconds-keep store (t - c) c u good (omega (arith, leb-false t c e))
 
 -- ---- what tick answers at each of its returns
 
@@ -114,9 +101,3 @@ accepts u store t e = go (eqb (length store) storeLength) refl (isSound u && sou
     go true p true q true r f =
         let w = and-true (isSound u) (soundStore (heldOf (u .pool)) store) q in
         record { long = eqb-true (length store) storeLength p; good = record { unit = w .0; lent = w .1 }; below = ltb-true t endOfTime r }
-
--- an accepted tick leaves a sound unit, and the store sound with it
-pub tick-keeps : (u : Unit) (store : List ℕ) (t : ℕ) → tickOf u store t .answer ≡ Answer.Accepted → SoundWith (tickOf u store t .unit) store
-tick-keeps u store t e =
-    let a = accepts u store t e in
-    rw (accepted u store t a) (ticked-sound u store t (a .good) (a .below))

@@ -8,7 +8,7 @@ use native.Mathlib.Nat.{add-zero, add-suc, suc-add, zero-add}
 use native.Mathlib.Numerals.{add-one}
 use native.Mathlib.Omega.{arith}
 use lib.ListN.{length, take, drop, set, length-append}
-use lib.Seq.{sets, sets-eq, length-sets, set-comm, drop-drop}
+use lib.Seq.{sets, sets-eq, set-comm, drop-drop}
 use Rattle.rules.specs.Digits.{decimal}
 use Rattle.writer.specs.Placed.{placed, Put}
 
@@ -28,10 +28,6 @@ sets-set (y ∷ a) l i j x h =
     rw (set-comm l j i x y other) (sets-set a (set l i y) (suc i) j x (omega arith))
 
 -- ---- bytes at a place
-
-pub length-placed : (l : List ℕ) (at : ℕ) (a : List ℕ) → length (placed l at a) ≡ length l
-unfolding placed
-length-placed l at a = length-sets l at a
 
 -- nothing
 pub put-none : (l : List ℕ) (at : ℕ) → Put l at [] l at
