@@ -7,7 +7,7 @@ import pages
 from edits import edits
 
 # The statements of these are steps towards those that the README names; they need a proof all the same.
-STEPS = ("agreement", "unit")
+STEPS = ("about_store", "unit")
 NAME = r"[A-Z]\w*[a-z]\w*"
 
 

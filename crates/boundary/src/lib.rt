@@ -38,7 +38,7 @@ fn put_words(s: Summary, out: &mut [u32])
         return;
     }
     let format = s.format;
-    out[0] = numbers::format_number(format);
+    out[0] = rules::format_number(format);
     out[1] = s.segment as u32;
     out[2] = s.records;
     out[3] = s.rates;
@@ -53,7 +53,7 @@ fn give(reading: Reading, out: &mut [u32]) -> u32
     ensures { λ r. ⌜ (r ≡ readNumber reading) × (now (out .exit) ≡ readWords reading (now (out .entry))) ⌝ }
 {
     match reading {
-        Reading::Refused(cause) => numbers::cause_number(cause),
+        Reading::Refused(cause) => rules::cause_number(cause),
         Reading::Read(s) => {
             put_words(s, out);
             0
@@ -83,7 +83,7 @@ fn written_number(written: Written) -> u32
 {
     match written {
         Written::Length(n) => (n % 2147483648) as u32,
-        Written::Refused(cause) => REFUSED + numbers::cause_number(cause),
+        Written::Refused(cause) => REFUSED + rules::cause_number(cause),
     }
 }
 
@@ -118,7 +118,7 @@ pub extern "C" fn tr_error_code(file: &[u8]) -> u32
 {
     match error_file::error_code(file) {
         ErrorCode::Code(n) => n as u32,
-        ErrorCode::Refused(cause) => REFUSED + numbers::cause_number(cause),
+        ErrorCode::Refused(cause) => REFUSED + rules::cause_number(cause),
     }
 }
 
@@ -228,6 +228,6 @@ pub extern "C" fn tr_install(id: &[u8], mac: &[u8], panel: u64, inverter: u64, m
     let answer = made.answer;
     match answer {
         Answer::Accepted => 0,
-        Answer::Refused(cause) => numbers::cause_number(cause),
+        Answer::Refused(cause) => rules::cause_number(cause),
     }
 }

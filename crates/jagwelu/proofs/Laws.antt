@@ -25,11 +25,11 @@ use Rattle.unit.specs.declared.CommandAsked.{CommandAsked}
 use Rattle.unit.specs.declared.FreeAsked.{FreeAsked}
 use Rattle.unit.specs.declared.RequestAsked.{RequestAsked}
 use Rattle.unit.proofs.LentLaws.{lent-row}
-use Rattle.held.specs.Answers.{dueNumbers, ceilingNumbers, commandNumber, blocksNumber, writtenNumbers, errorNumbers}
-use Rattle.held.specs.declared.answers.Number.{Number}
-use Rattle.held.specs.declared.answers.WrittenBytes.{WrittenBytes}
-use Rattle.held.specs.declared.answers.DueAnswer.{DueAnswer}
-use Rattle.held.specs.declared.answers.CeilingAnswer.{CeilingAnswer}
+use Rattle.c_structs.specs.Answers.{dueNumbers, ceilingNumbers, commandNumber, blocksNumber, writtenNumbers, errorNumbers}
+use Rattle.c_structs.specs.declared.answers.Number.{Number}
+use Rattle.c_structs.specs.declared.answers.WrittenBytes.{WrittenBytes}
+use Rattle.c_structs.specs.declared.answers.DueAnswer.{DueAnswer}
+use Rattle.c_structs.specs.declared.answers.CeilingAnswer.{CeilingAnswer}
 use Rattle.jagwelu.specs.Check.{checkNumber}
 
 module _ (u : Unit) (store : List ℕ) where

@@ -3,11 +3,11 @@ ghost use mathlib.Core.Path.{_≡_};
 ghost use lib.ListN.{length};
 ghost use Rattle.rules.specs.Name.{formatOf};
 ghost use Rattle.rules.specs.Writer.{writtenOf, bufferAfter};
-ghost use Rattle.held.specs.Answers.{writtenNumbers};
-ghost use Rattle.held.specs.Places.{placesNumbers};
+ghost use Rattle.c_structs.specs.Answers.{writtenNumbers};
+ghost use Rattle.c_structs.specs.Places.{placesNumbers};
 ghost use Rattle.jagwelu.specs.Bodies.{foundOf, locateBy, ratesBy};
-use held::RecordPlaces;
-use held::WrittenBytes;
+use c_structs::RecordPlaces;
+use c_structs::WrittenBytes;
 use records::Located;
 use rules::Cause;
 use rules::Format;
@@ -52,7 +52,7 @@ pub extern "C" fn jag_record(format: u32, body: &[u8], index: usize) -> RecordPl
     ensures { λ r. ⌜ r ≡ placesNumbers (locateBy (formatOf format) (now (body .entry)) index) ⌝ }
 {
     let found = located(format, body, index);
-    held::record_places(found)
+    c_structs::record_places(found)
 }
 
 // 7, 9 and 15, as `records::copy_rates` has them; 7 for a number that is no format's.
@@ -72,5 +72,5 @@ pub extern "C" fn jag_copy_rates(format: u32, body: &[u8], out: &mut [u8]) -> Wr
     ensures buffer { λ _. ⌜ now (out .exit) ≡ bufferAfter (ratesBy (formatOf format) (now (body .entry)) (length (now (out .entry)))) (now (out .entry)) ⌝ }
 {
     let written = copied(format, body, out);
-    held::written_bytes(written)
+    c_structs::written_bytes(written)
 }

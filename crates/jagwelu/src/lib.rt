@@ -14,17 +14,17 @@ ghost use Rattle.unit.specs.Calls.{tickOf, lostOf, takeOf, storeAfterTake, fail
 ghost use Rattle.unit.specs.Request.{requestOf};
 ghost use Rattle.unit.specs.Values.{installedUnit};
 ghost use Rattle.writer.specs.Fields.{fieldsOf};
-ghost use Rattle.held.specs.Held.{opened, handed, newly};
+ghost use Rattle.c_structs.specs.Held.{opened, handed, newly};
 ghost use Rattle.jagwelu.specs.Check.{checkNumber};
-ghost use Rattle.held.specs.Answers.{dueNumbers, ceilingNumbers, commandNumber, blocksNumber, writtenNumbers, fileNumbers, errorNumbers};
-use held::CeilingAnswer;
-use held::DueAnswer;
-use held::ErrorAnswer;
-use held::FileAnswer;
-use held::Handed;
-use held::HeldUnit;
-use held::Number;
-use held::WrittenBytes;
+ghost use Rattle.c_structs.specs.Answers.{dueNumbers, ceilingNumbers, commandNumber, blocksNumber, writtenNumbers, fileNumbers, errorNumbers};
+use c_structs::CeilingAnswer;
+use c_structs::DueAnswer;
+use c_structs::ErrorAnswer;
+use c_structs::FileAnswer;
+use c_structs::Handed;
+use c_structs::HeldUnit;
+use c_structs::Number;
+use c_structs::WrittenBytes;
 use rules::Cause;
 use rules::ErrorCode;
 use rules::Kind;
@@ -44,25 +44,25 @@ pub extern "C" fn jag_install(
     ensures { λ r. ⌜ r ≡ newly (installedUnit (now (id .entry)) (now (mac .entry)) (settings panel inverter minutes)) ⌝ }
 {
     let installed = Unit::install(id, mac, panel, inverter, minutes);
-    held::hand_new(installed)
+    c_structs::hand_new(installed)
 }
 
 #[no_mangle]
 pub extern "C" fn jag_tick(unit: HeldUnit, second: u64, store: &[u8]) -> Handed
     ensures { λ r. ⌜ r ≡ handed unit (tickOf (opened unit) (now (store .entry)) second) ⌝ }
 {
-    let opened = held::open(unit);
+    let opened = c_structs::open(unit);
     let done = opened.tick(second, store);
-    held::hand(unit, done)
+    c_structs::hand(unit, done)
 }
 
 #[no_mangle]
 pub extern "C" fn jag_clock_lost(unit: HeldUnit) -> Handed
     ensures { λ r. ⌜ r ≡ handed unit (lostOf (opened unit)) ⌝ }
 {
-    let opened = held::open(unit);
+    let opened = c_structs::open(unit);
     let done = opened.clock_lost();
-    held::hand(unit, done)
+    c_structs::hand(unit, done)
 }
 
 #[no_mangle]
@@ -75,18 +75,18 @@ pub extern "C" fn jag_take_file(
     ensures answer { λ r. ⌜ r ≡ handed unit (takeOf (opened unit) (now (store .entry)) (now (name .entry)) (now (body .entry))) ⌝ }
     ensures kept { λ _. ⌜ now (store .exit) ≡ storeAfterTake (opened unit) (now (store .entry)) (now (name .entry)) (now (body .entry)) ⌝ }
 {
-    let opened = held::open(unit);
+    let opened = c_structs::open(unit);
     let done = opened.take_file(name, body, store);
-    held::hand(unit, done)
+    c_structs::hand(unit, done)
 }
 
 // A request of that kind failed.
 fn failed(unit: HeldUnit, kind: Kind, status: u64) -> Handed
     ensures { λ r. ⌜ r ≡ handed unit (failureOf (opened unit) kind status) ⌝ }
 {
-    let opened = held::open(unit);
+    let opened = c_structs::open(unit);
     let done = opened.failure(kind, status);
-    held::hand(unit, done)
+    c_structs::hand(unit, done)
 }
 
 #[no_mangle]
@@ -107,40 +107,40 @@ pub extern "C" fn jag_fixed_failed(unit: HeldUnit, status: u64) -> Handed
 pub extern "C" fn jag_due(unit: HeldUnit) -> DueAnswer
     ensures { λ r. ⌜ r ≡ dueNumbers (dueOf (opened unit)) ⌝ }
 {
-    let opened = held::open(unit);
+    let opened = c_structs::open(unit);
     let asked = opened.due();
     let due = asked.answer;
-    held::due_answer(due)
+    c_structs::due_answer(due)
 }
 
 #[no_mangle]
 pub extern "C" fn jag_ceiling(unit: HeldUnit, slot: u64, store: &[u8]) -> CeilingAnswer
     ensures { λ r. ⌜ r ≡ ceilingNumbers (ceilingOf (opened unit) (now (store .entry)) slot) ⌝ }
 {
-    let opened = held::open(unit);
+    let opened = c_structs::open(unit);
     let asked = opened.ceiling(slot, store);
     let ceiling = asked.answer;
-    held::ceiling_answer(ceiling)
+    c_structs::ceiling_answer(ceiling)
 }
 
 #[no_mangle]
 pub extern "C" fn jag_command(unit: HeldUnit) -> Number
     ensures { λ r. ⌜ r ≡ commandNumber (commandOf (opened unit)) ⌝ }
 {
-    let opened = held::open(unit);
+    let opened = c_structs::open(unit);
     let asked = opened.command();
     let command = asked.answer;
-    held::command_number(command)
+    c_structs::command_number(command)
 }
 
 #[no_mangle]
 pub extern "C" fn jag_free_blocks(unit: HeldUnit) -> Number
     ensures { λ r. ⌜ r ≡ blocksNumber (freeOf (opened unit)) ⌝ }
 {
-    let opened = held::open(unit);
+    let opened = c_structs::open(unit);
     let asked = opened.free_blocks();
     let free = asked.answer;
-    held::blocks_number(free)
+    c_structs::blocks_number(free)
 }
 
 #[no_mangle]
@@ -148,14 +148,14 @@ pub extern "C" fn jag_check(unit: HeldUnit, store: &[u8]) -> u32
     ensures { λ r. ⌜ r ≡ checkNumber (opened unit) (now (store .entry)) ⌝ }
 {
     if store.len() != Unit::STORE_LENGTH {
-        return numbers::cause_number(Cause::StoreLength);
+        return rules::cause_number(Cause::StoreLength);
     }
-    let opened = held::open(unit);
+    let opened = c_structs::open(unit);
     let pool = opened.pool;
     if opened.sound() & schedule::store_holds(pool, store) {
         0
     } else {
-        numbers::cause_number(Cause::Unsound)
+        rules::cause_number(Cause::Unsound)
     }
 }
 
@@ -164,10 +164,10 @@ pub extern "C" fn jag_request(unit: HeldUnit, segment: &[u8], out: &mut [u8]) ->
     ensures answer { λ r. ⌜ r ≡ writtenNumbers (writtenOf (requestOf (opened unit) (now (segment .entry)) (length (now (out .entry))))) ⌝ }
     ensures buffer { λ _. ⌜ now (out .exit) ≡ bufferAfter (requestOf (opened unit) (now (segment .entry)) (length (now (out .entry)))) (now (out .entry)) ⌝ }
 {
-    let opened = held::open(unit);
+    let opened = c_structs::open(unit);
     let asked = opened.request(segment, out);
     let written = asked.answer;
-    held::written_bytes(written)
+    c_structs::written_bytes(written)
 }
 
 #[no_mangle]
@@ -175,7 +175,7 @@ pub extern "C" fn jag_read(name: &[u8], body: &[u8]) -> FileAnswer
     ensures { λ r. ⌜ r ≡ fileNumbers (readingOf (readFile none (now (name .entry)) (now (body .entry)))) ⌝ }
 {
     let reading = transfer::read(name, body);
-    held::file_answer(reading)
+    c_structs::file_answer(reading)
 }
 
 // For a plant whose ID is given: a file for another is refused with 8.
@@ -184,7 +184,7 @@ pub extern "C" fn jag_read_for(plant: &[u8], name: &[u8], body: &[u8]) -> FileAn
     ensures { λ r. ⌜ r ≡ fileNumbers (readingOf (readFile (some (now (plant .entry))) (now (name .entry)) (now (body .entry)))) ⌝ }
 {
     let reading = transfer::read_for(plant, name, body);
-    held::file_answer(reading)
+    c_structs::file_answer(reading)
 }
 
 #[no_mangle]
@@ -202,7 +202,7 @@ pub extern "C" fn jag_write_body(
     ensures buffer { λ _. ⌜ now (out .exit) ≡ bufferAfter (writeBody (fieldsOf format (now (plant .entry)) (now (schedule .entry)) (now (start .entry)) (now (next .entry)) (now (rates .entry)) flag) (length (now (out .entry)))) (now (out .entry)) ⌝ }
 {
     let written = writer::write_body(format, plant, schedule, start, next, rates, flag, out);
-    held::written_bytes(written)
+    c_structs::written_bytes(written)
 }
 
 #[no_mangle]
@@ -219,7 +219,7 @@ pub extern "C" fn jag_error_file(file: &[u8]) -> ErrorAnswer
         ErrorCode::Refused(cause) => ErrorAnswer {
             text_at: 0,
             text_length: 0,
-            cause: numbers::cause_number(cause),
+            cause: rules::cause_number(cause),
             code: 0,
         },
     }

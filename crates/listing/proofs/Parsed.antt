@@ -14,7 +14,7 @@ use Rattle.rules.specs.Body.{Record, Body, schedule, mostRates, tailDigits, rat
 use Rattle.rules.specs.Lister.{totalRates}
 use Rattle.rules.specs.declared.Format.{Format}
 use Rattle.rules.specs.declared.Format.the-variants.{F201, F202, F203, F301}
-use Rattle.exact.proofs.Booleans.{both}
+use Rattle.about_files.proofs.Booleans.{both}
 use Rattle.listing.specs.Bound.{longestBody}
 
 pub nothing : {A X : Type 0} {a : A} → _≡_ {A = Option A} none (some a) → X

@@ -19,8 +19,8 @@ use Rattle.rules.specs.Lister.{totalRates, recordCount, rateCount}
 use Rattle.rules.specs.declared.Cause.{Cause}
 use Rattle.rules.specs.declared.Format.{Format}
 use Rattle.rules.specs.declared.Format.the-variants.{F201, F202, F203, F301}
-use Rattle.exact.proofs.Booleans.{both}
-use Rattle.exact.proofs.Calendar.{days-most}
+use Rattle.about_files.proofs.Booleans.{both}
+use Rattle.about_files.proofs.Calendar.{days-most}
 
 use Rattle.listing.proofs.Parsed.{nothing, parsed}
 

@@ -122,9 +122,9 @@ fn reading_line(reading: Reading) -> Line
     match reading {
         Reading::Read(file) => {
             let format = file.format;
-            ok_line(numbers::format_number(format), file.records, file.rates)
+            ok_line(rules::format_number(format), file.records, file.rates)
         }
-        Reading::Refused(cause) => refused_line(numbers::cause_number(cause)),
+        Reading::Refused(cause) => refused_line(rules::cause_number(cause)),
     }
 }
 

@@ -19,7 +19,7 @@ fn end_line() {
 
 fn show_refusal(cause: Cause) {
     io::write_all(STDOUT_FILENO, b"refused ");
-    show_number(numbers::cause_number(cause) as u64);
+    show_number(rules::cause_number(cause) as u64);
     end_line();
 }
 
@@ -118,7 +118,7 @@ fn show_name(name: &[u8]) {
     match name::read_name(name) {
         NameRead::Named(fields) => {
             let format = fields.format;
-            show_number(numbers::format_number(format) as u64);
+            show_number(rules::format_number(format) as u64);
             io::write_all(STDOUT_FILENO, b" ");
             show_number(fields.segment as u64);
             io::write_all(STDOUT_FILENO, b" ");

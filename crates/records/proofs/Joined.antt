@@ -18,7 +18,7 @@ use Rattle.body.specs.Walk.{shaped, recordsFrom, Whole}
 use Rattle.body.proofs.Parts.{part-to}
 use Rattle.body.proofs.Walk.{whole-first, within, shaped-first, shaped-rest, records-end, records-step}
 use Rattle.body.proofs.Kept.{rates-total}
-use Rattle.exact.specs.Writing.{endToEnd}
+use Rattle.about_files.specs.Writing.{endToEnd}
 use Rattle.writer.specs.Placed.{Put}
 use Rattle.writer.proofs.Placing.{put-none, next-to, put-same}
 use Rattle.writer.proofs.Outputs.{no-room, with-room}

@@ -8,7 +8,7 @@ use Rattle.rules.specs.File.{recordsIn}
 use Rattle.rules.specs.Writer.{Output, refuse, need, fitting}
 use Rattle.rules.specs.declared.Cause.{Cause}
 use Rattle.rules.specs.declared.Format.{Format}
-use Rattle.exact.specs.Writing.{endToEnd}
+use Rattle.about_files.specs.Writing.{endToEnd}
 use Rattle.records.specs.declared.Field.{Field}
 use Rattle.records.specs.declared.Field.the-variants.{Schedule, Plant, Start, Rates, Flag, Checksum, Next}
 

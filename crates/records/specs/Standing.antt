@@ -8,7 +8,7 @@ use Rattle.rules.specs.Digits.{part, allDigits}
 use Rattle.rules.specs.Body.{countOf, ratesOf, counted}
 use Rattle.rules.specs.declared.Format.{Format}
 use Rattle.body.specs.Walk.{shaped, recordsFrom}
-use Rattle.exact.specs.Writing.{endToEnd}
+use Rattle.about_files.specs.Writing.{endToEnd}
 
 abbrev pub standing : Format → List ℕ → Bool
 standing f body = counted f body && shaped f (countOf f) (drop 6 body)

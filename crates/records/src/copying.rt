@@ -4,7 +4,7 @@ ghost use Prim.Native.Nat.{_+_, _≤_};
 ghost use lib.ListN.{length};
 ghost use Rattle.rules.specs.Body.{countOf};
 ghost use Rattle.body.specs.Walk.{recordsFrom};
-ghost use Rattle.exact.specs.Writing.{endToEnd};
+ghost use Rattle.about_files.specs.Writing.{endToEnd};
 ghost use Rattle.writer.specs.Placed.{Put};
 ghost use Rattle.records.specs.Standing.{RatesRoom};
 use crate::walk::RATES;

@@ -13,19 +13,19 @@ use unit::Unit;
 const REQUEST_LENGTH: usize = 84;
 
 fn put_line(text: &[u8], out: &mut [u8], at: usize) -> usize {
-    let at = fields::put_text(out, at, text);
-    fields::put_text(out, at, b"\n")
+    let at = script_fields::put_text(out, at, text);
+    script_fields::put_text(out, at, b"\n")
 }
 
 // A word, a number and 0A.
 fn put_number(word: &[u8], n: u64, out: &mut [u8], at: usize) -> usize {
-    let at = fields::put_text(out, at, word);
-    let at = fields::put_number(out, at, n);
-    fields::put_text(out, at, b"\n")
+    let at = script_fields::put_text(out, at, word);
+    let at = script_fields::put_number(out, at, n);
+    script_fields::put_text(out, at, b"\n")
 }
 
 fn put_refusal(cause: Cause, out: &mut [u8], at: usize) -> usize {
-    put_number(b"refused ", numbers::cause_number(cause) as u64, out, at)
+    put_number(b"refused ", rules::cause_number(cause) as u64, out, at)
 }
 
 pub(crate) fn put_answer(answer: Answer, out: &mut [u8], at: usize) -> usize {
@@ -38,8 +38,8 @@ pub(crate) fn put_answer(answer: Answer, out: &mut [u8], at: usize) -> usize {
 fn put_ceiling(ceiling: Ceiling, out: &mut [u8], at: usize) -> usize {
     match ceiling {
         Ceiling::Rated { rate, percent } => {
-            let at = fields::put_text(out, at, b"rate ");
-            let at = fields::put_number(out, at, rate as u64);
+            let at = script_fields::put_text(out, at, b"rate ");
+            let at = script_fields::put_number(out, at, rate as u64);
             put_number(b" ", percent as u64, out, at)
         }
         Ceiling::NoRate => put_line(b"none", out, at),

@@ -4,7 +4,7 @@ use crate::progress::Progress;
 use crate::shown;
 use crate::stores;
 use crate::stores::most_of;
-use fields::Field;
+use script_fields::Field;
 use rules::Answer;
 use script::Ask;
 use unit::Call;
@@ -68,10 +68,10 @@ fn install_line(
 ) -> Progress {
     let mut id = io::large_buffer();
     let mut mac = io::large_buffer();
-    let Field::Length(long) = fields::digits_of(words::word(line, 1), &mut id) else {
+    let Field::Length(long) = script_fields::digits_of(script_words::word(line, 1), &mut id) else {
         return was.says(b"unknown", out);
     };
-    let Field::Length(wide) = fields::bytes_of(words::word(line, 2), &mut mac) else {
+    let Field::Length(wide) = script_fields::bytes_of(script_words::word(line, 2), &mut mac) else {
         return was.says(b"unknown", out);
     };
     let id_end = most_of(long, &id);
@@ -90,10 +90,10 @@ fn install_line(
 fn take_line(was: Progress, line: &[u8], store: &mut [u8], out: &mut [u8]) -> Progress {
     let mut name = io::large_buffer();
     let mut body = io::large_buffer();
-    let Field::Length(long) = fields::bytes_of(words::word(line, 1), &mut name) else {
+    let Field::Length(long) = script_fields::bytes_of(script_words::word(line, 1), &mut name) else {
         return was.says(b"unknown", out);
     };
-    let Field::Length(wide) = fields::hex_of(words::word(line, 2), &mut body) else {
+    let Field::Length(wide) = script_fields::hex_of(script_words::word(line, 2), &mut body) else {
         return was.says(b"unknown", out);
     };
     if was.installed {
@@ -114,7 +114,7 @@ fn take_line(was: Progress, line: &[u8], store: &mut [u8], out: &mut [u8]) -> Pr
 
 fn request_line(was: Progress, line: &[u8], out: &mut [u8]) -> Progress {
     let mut segment = io::large_buffer();
-    let Field::Length(long) = fields::bytes_of(words::word(line, 1), &mut segment) else {
+    let Field::Length(long) = script_fields::bytes_of(script_words::word(line, 1), &mut segment) else {
         return was.says(b"unknown", out);
     };
     if was.installed {

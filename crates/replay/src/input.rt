@@ -91,7 +91,7 @@ impl Reader {
 // does not fit makes the line too long.
 fn gather(was: Reader, part: &[u8], line: &mut [u8]) -> Reader {
     let length = was.length;
-    let end = fields::put_text(line, length, part);
+    let end = script_fields::put_text(line, length, part);
     if end == length {
         return was.with_line(length, was.over | (0 < part.len()));
     }
@@ -155,7 +155,7 @@ pub(crate) fn feed(
     let mut reader = was;
     let mut rest = part;
     while 0 < rest.len() {
-        let end = words::place(rest, NEW_LINE);
+        let end = script_words::place(rest, NEW_LINE);
         reader = take_part(reader, rest, end, line, store, out);
         let start = behind(end, rest.len());
         rest = &rest[start..];

@@ -35,8 +35,8 @@ impl Progress {
 
     // A line goes out.
     pub(crate) fn says(self, text: &[u8], out: &mut [u8]) -> Progress {
-        let at = fields::put_text(out, self.at, text);
-        self.written(fields::put_text(out, at, b"\n"))
+        let at = script_fields::put_text(out, self.at, text);
+        self.written(script_fields::put_text(out, at, b"\n"))
     }
 
     pub(crate) fn with_unit(self, unit: Unit) -> Progress {

@@ -1,8 +1,8 @@
 // What a unit has, for `state` and `block`: each function puts text into the output and gives the place behind it.
 use pool::Found;
 use pool::Pool;
-use requests::NO_FLAG;
-use requests::Requests;
+use polling::NO_FLAG;
+use polling::Requests;
 use unit::Clock;
 use unit::Unit;
 
@@ -10,30 +10,30 @@ use unit::Unit;
 const MONTHS: u16 = 1200;
 
 fn put_clock(clock: Clock, out: &mut [u8], at: usize) -> usize {
-    let at = fields::put_text(out, at, b"clock ");
+    let at = script_fields::put_text(out, at, b"clock ");
     match clock {
-        Clock::Unset => fields::put_text(out, at, b"unset"),
-        Clock::At(t) => fields::put_number(out, at, t as u64),
+        Clock::Unset => script_fields::put_text(out, at, b"unset"),
+        Clock::At(t) => script_fields::put_number(out, at, t as u64),
     }
 }
 
 fn put_value(word: &[u8], n: u64, out: &mut [u8], at: usize) -> usize {
-    let at = fields::put_text(out, at, word);
-    fields::put_number(out, at, n)
+    let at = script_fields::put_text(out, at, word);
+    script_fields::put_number(out, at, n)
 }
 
 fn put_flag(word: &[u8], flag: u8, out: &mut [u8], at: usize) -> usize {
-    let at = fields::put_text(out, at, word);
+    let at = script_fields::put_text(out, at, word);
     if flag == NO_FLAG {
-        fields::put_text(out, at, b"none")
+        script_fields::put_text(out, at, b"none")
     } else {
-        fields::put_number(out, at, flag as u64)
+        script_fields::put_number(out, at, flag as u64)
     }
 }
 
 // A held month and its block.
 fn put_month(month: u16, block: usize, out: &mut [u8], at: usize) -> usize {
-    let at = fields::put_number(out, at, month as u64);
+    let at = script_fields::put_number(out, at, month as u64);
     put_value(b":", block as u64, out, at)
 }
 
@@ -45,7 +45,7 @@ fn put_if_held(pool: Pool, month: u16, start: usize, out: &mut [u8], at: usize) 
     if at == start {
         return put_month(month, block, out, at);
     }
-    let next = fields::put_text(out, at, b",");
+    let next = script_fields::put_text(out, at, b",");
     put_month(month, block, out, next)
 }
 
@@ -62,10 +62,10 @@ fn put_months(pool: Pool, out: &mut [u8], start: usize) -> usize {
 
 // 'held MONTH:BLOCK,..', months rising, and - where there is none.
 fn put_held(pool: Pool, out: &mut [u8], at: usize) -> usize {
-    let start = fields::put_text(out, at, b" held ");
+    let start = script_fields::put_text(out, at, b" held ");
     let end = put_months(pool, out, start);
     if end == start {
-        return fields::put_text(out, start, b"-");
+        return script_fields::put_text(out, start, b"-");
     }
     end
 }
@@ -94,22 +94,22 @@ pub(crate) fn put_state(unit: Unit, out: &mut [u8], at: usize) -> usize {
     let at = put_times(unit, out, at);
     let at = put_value(b" command ", unit.command as u64, out, at);
     let at = put_held(pool, out, at);
-    fields::put_text(out, at, b"\n")
+    script_fields::put_text(out, at, b"\n")
 }
 
 // The line of `block`: 'the 1488 bytes of that month's block in hex | none', and 'none where the store lacks the length'.
 pub(crate) fn put_block(pool: Pool, month: u64, store: &[u8], out: &mut [u8], at: usize) -> usize {
     if store.len() != Unit::STORE_LENGTH {
-        return fields::put_text(out, at, b"none\n");
+        return script_fields::put_text(out, at, b"none\n");
     }
     if MONTHS as u64 <= month {
-        return fields::put_text(out, at, b"none\n");
+        return script_fields::put_text(out, at, b"none\n");
     }
     let Found::At(block) = pool.find(month as u16) else {
-        return fields::put_text(out, at, b"none\n");
+        return script_fields::put_text(out, at, b"none\n");
     };
     let start = block * Unit::BLOCK_LENGTH;
     let end = start + Unit::BLOCK_LENGTH;
-    let at = fields::put_hex(out, at, &store[start..end]);
-    fields::put_text(out, at, b"\n")
+    let at = script_fields::put_hex(out, at, &store[start..end]);
+    script_fields::put_text(out, at, b"\n")
 }

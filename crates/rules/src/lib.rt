@@ -1,5 +1,10 @@
 // What the schedule unit's answers are made of. specs/ says what each one means, rule by rule of document 01.
 
+mod numbers;
+
+pub use numbers::cause_number;
+pub use numbers::format_number;
+
 // Why a call is refused: a case for each number of 01's table, in its order.
 pub enum Cause {
     PlantId,

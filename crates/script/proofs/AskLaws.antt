@@ -7,10 +7,10 @@ use native.Mathlib.Omega.{arith}
 use borrow.Author.Tests.{le-leb, lt-leb, eq-eqb, ne-eqb}
 use lib.Dec.{eqb}
 use lib.ListN.{length, getD}
-use Rattle.words.specs.Words.{wordAt, wordCount}
+use Rattle.script_words.specs.Words.{wordAt, wordCount}
 use Rattle.script.specs.Ask.{storeAsk, byteAsk, isSilent, askOne, askTwo, askThree, askSix, askOf}
 use Rattle.script.specs.declared.ask.Ask.{Ask}
-use Rattle.words.specs.declared.number.Number.{Number}
+use Rattle.script_words.specs.declared.number.Number.{Number}
 
 module _ (l x : ℕ) where
   pub store-long : 32768 < l → Ask.Unknown ≡ storeAsk (Number.Value l) (Number.Value x)

@@ -5,9 +5,9 @@ use mathlib.Core.List.{List, [], _∷_}
 use lib.Dec.{leb, eqb}
 use Rattle.rules.specs.Digits.{sameBytes}
 use Rattle.rules.specs.declared.Kind.{Kind}
-use Rattle.words.specs.Words.{wordAt, wordCount}
-use Rattle.words.specs.Number.{numberOf}
-use Rattle.words.specs.declared.number.Number.{Number}
+use Rattle.script_words.specs.Words.{wordAt, wordCount}
+use Rattle.script_words.specs.Number.{numberOf}
+use Rattle.script_words.specs.declared.number.Number.{Number}
 use Rattle.script.specs.declared.ask.Ask.{Ask}
 
 -- ---- the first words, and the kinds of a failure

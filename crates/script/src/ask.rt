@@ -2,10 +2,10 @@
 ghost use mathlib.Core.Path.{_≡_};
 ghost use Rattle.script.specs.Ask.{tickAsk, ceilingAsk, blockAsk, storeAsk, byteAsk, statusAsk, failureAsk, installAsk, askOne, askTwo, askThree, askSix, isSilent, askOf};
 use rules::Kind;
-use words::Number;
-use words::number_of;
-use words::word;
-use words::word_count;
+use script_words::Number;
+use script_words::number_of;
+use script_words::word;
+use script_words::word_count;
 
 // A call with its numbers; the words that stand for bytes are still to be read. An ID and a MAC, a NAME and a body's digits are words 1
 // and 2 of their lines, a SEGMENT is word 1.

@@ -22,7 +22,7 @@ use Rattle.name.specs.Read.{plantDigits}
 use Rattle.name.specs.declared.Fields.{Fields}
 use Rattle.name.proofs.Laws.{Read, parsed, plant-is}
 use Rattle.name.proofs.Ascii.{both}
-use Rattle.exact.proofs.Numerals.{decimal-value}
+use Rattle.about_files.proofs.Numerals.{decimal-value}
 use Rattle.transfer.specs.Under.{underName, forPlant}
 
 -- 7: the name breaks its form

@@ -17,9 +17,9 @@ use Rattle.plant.specs.Plant.{validPlant}
 use Rattle.plant.specs.declared.Plant.{Plant}
 use Rattle.pool.specs.Blocks.{freeCount, isFree}
 use Rattle.pool.specs.Held.{heldOf, soundPool}
-use Rattle.requests.specs.Requests.{requestsOf, requestsFrom}
-use Rattle.requests.specs.Due.{dueFor}
-use Rattle.requests.specs.declared.Requests.{Requests}
+use Rattle.polling.specs.Requests.{requestsOf, requestsFrom}
+use Rattle.polling.specs.Due.{dueFor}
+use Rattle.polling.specs.declared.Requests.{Requests}
 use Rattle.unit.specs.Values.{clockOf, valuesOf, isSound, freshPool, freshUnit}
 use Rattle.unit.specs.Rows.{firstOf}
 use Rattle.unit.specs.Calls.{refusal, lost, lostOf, withFailure, failureOf, dueOf, commandOf, freeOf}

@@ -21,7 +21,7 @@ use Rattle.rules.specs.declared.Format.{Format}
 use Rattle.rules.specs.declared.Format.the-variants.{F201, F202, F203, F301}
 use Rattle.digits.proofs.Scan.{part-rest}
 use Rattle.name.proofs.Laws.{segment-digit}
-use Rattle.exact.proofs.Reading.{taken-exactly, lawful-facts}
+use Rattle.about_files.proofs.Reading.{taken-exactly, lawful-facts}
 use Rattle.body.specs.Walk.{shaped, recordsFrom}
 use Rattle.rules.specs.Reading.{summaryOf, readingOf, firstStart, accessOf}
 use Rattle.rules.specs.declared.Summary.{Summary}
@@ -29,8 +29,8 @@ use Rattle.rules.specs.declared.Reading.{Reading}
 use Rattle.rules.specs.declared.Reading.the-variants.{Read, Refused}
 use Rattle.body.proofs.Parts.{both}
 use Rattle.body.proofs.Walk.{parse-is}
-use Rattle.agreement.specs.Run.{RunFrom, runStart, runLength}
-use Rattle.agreement.proofs.Laws.{taken-good}
+use Rattle.about_store.specs.Run.{RunFrom, runStart, runLength}
+use Rattle.about_store.proofs.Laws.{taken-good}
 use Rattle.unit.specs.Taking.{Following, takeSummary}
 
 -- ---- the outcome, by what was read

@@ -10,7 +10,7 @@ use Rattle.rules.specs.Body.{Record, tailDigits, ratesOf, sizeOf, recordAt}
 use Rattle.rules.specs.File.{startOf}
 use Rattle.rules.specs.declared.Format.{Format}
 use Rattle.schedule.specs.Stored.{Stored, putRun}
-use Rattle.agreement.specs.Run.{GoodRecord, RunFrom, putRecords}
+use Rattle.about_store.specs.Run.{GoodRecord, RunFrom, putRecords}
 use Rattle.body.specs.Walk.{Whole, shaped, recordsFrom}
 use Rattle.body.proofs.Parts.{part-to}
 use Rattle.body.proofs.Walk.{records-end, records-step, shaped-rest, whole-first, within}

@@ -129,7 +129,7 @@ module _ (p : Pool) (floor : ℕ) (store : List ℕ) where
   store-released = store-below 16 (omega arith)
 
 -- a held block of a sound store is sound
-held-block : (p : Pool) (store : List ℕ) (k b : ℕ) → b < k → isFree p b ≡ false → soundStore (heldBelow k p) store ≡ true
+pub held-block : (p : Pool) (store : List ℕ) (k b : ℕ) → b < k → isFree p b ≡ false → soundStore (heldBelow k p) store ≡ true
     → soundBlock (monthOf p b) (blockOf store b) ≡ true
 unfolding heldBelow soundStore
 held-block p store zero b l u e = absurd (omega arith)
@@ -145,7 +145,7 @@ held-block p store (suc k) b l u e = go (isFree p k) refl (λ h. held-block p st
     go false f rest (inl s) d = ap block s ∙ and-true (block k) (soundStore (heldBelow k p) store) d .0
     go false f rest (inr h) d = rest h (and-true (block k) (soundStore (heldBelow k p) store) d .1)
 
-all-at : (test : ℕ → Bool) (l : List ℕ) (i d : ℕ) → test d ≡ true → all test l ≡ true → test (getD l i d) ≡ true
+pub all-at : (test : ℕ → Bool) (l : List ℕ) (i d : ℕ) → test d ≡ true → all test l ≡ true → test (getD l i d) ≡ true
 unfolding all
 all-at test [] i d t e = t
 all-at test (x ∷ l) zero d t e = and-true (test x) (all test l) e .0
@@ -164,7 +164,7 @@ byte-legal x e = go (eqb x noRate) e
     go false f = leb-true x 100 (left (leb x 100) f)
 
 -- the bytes of a sound block's slots are rates, or none
-block-legal : (store : List ℕ) (m b i : ℕ) → i < slotsOfMonth m → soundBlock m (blockOf store b) ≡ true → orZero (fromByte (getD store (place b i) noRate)) ≤ 100
+pub block-legal : (store : List ℕ) (m b i : ℕ) → i < slotsOfMonth m → soundBlock m (blockOf store b) ≡ true → orZero (fromByte (getD store (place b i) noRate)) ≤ 100
 unfolding soundBlock
 block-legal store m b i l e =
     let days = days-range m .1 in

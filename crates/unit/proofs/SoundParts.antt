@@ -8,7 +8,7 @@ use Rattle.rules.specs.Store.{soundRequests, soundClock, soundStore}
 use Rattle.plant.specs.Plant.{validPlant}
 use Rattle.pool.specs.Held.{heldOf, soundPool}
 use Rattle.pool.proofs.BelowLaws.{and-true}
-use Rattle.requests.specs.Requests.{requestsOf}
+use Rattle.polling.specs.Requests.{requestsOf}
 use Rattle.unit.specs.Values.{clockOf, isSound}
 use Rattle.unit.specs.declared.Unit.{Unit}
 use Rattle.unit.proofs.CallLaws.{sound-is}

@@ -19,9 +19,9 @@ use Rattle.pool.specs.Blocks.{freeCount}
 use Rattle.pool.specs.declared.Pool.{Pool}
 use Rattle.schedule.specs.Stored.{Stored, storeHolds, missing}
 use Rattle.schedule.specs.Rates.{storedOf}
-use Rattle.agreement.specs.Run.{runStart, runLength, putRecords}
-use Rattle.requests.specs.Requests.{requestsOf, requestsFrom}
-use Rattle.requests.specs.declared.Requests.{Requests}
+use Rattle.about_store.specs.Run.{runStart, runLength, putRecords}
+use Rattle.polling.specs.Requests.{requestsOf, requestsFrom}
+use Rattle.polling.specs.declared.Requests.{Requests}
 use Rattle.unit.specs.Values.{isSound}
 use Rattle.unit.specs.Rows.{firstOf, isUnset}
 use Rattle.unit.specs.Calls.{refusal, fullRow, withFile, takeOf, storeAfterTake}

@@ -18,9 +18,9 @@ use Rattle.rules.specs.declared.Kind.{Kind}
 use Rattle.plant.specs.Plant.{settingsOf}
 use Rattle.pool.specs.Blocks.{releaseOf, freeCount}
 use Rattle.schedule.specs.Stored.{Stored, storedRate, missing}
-use Rattle.agreement.specs.Run.{runStart, runLength, putRecords}
-use Rattle.requests.specs.Requests.{requestsOf, requestsFrom}
-use Rattle.requests.specs.Due.{dueFor}
+use Rattle.about_store.specs.Run.{runStart, runLength, putRecords}
+use Rattle.polling.specs.Requests.{requestsOf, requestsFrom}
+use Rattle.polling.specs.Due.{dueFor}
 use Rattle.unit.specs.Values.{clockOf}
 use Rattle.unit.specs.Rows.{Row, firstOf, lengthRow, unitRow, soundRow, clockRow, tickRow, slotRow, statusRow}
 use Rattle.unit.specs.declared.Unit.{Unit}

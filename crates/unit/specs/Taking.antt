@@ -10,9 +10,9 @@ use Rattle.rules.specs.declared.Format.{Format}
 use Rattle.rules.specs.declared.Format.the-variants.{F201, F202, F203, F301}
 use Rattle.body.specs.Walk.{shaped, recordsFrom}
 use Rattle.rules.specs.declared.Summary.{Summary}
-use Rattle.agreement.specs.Run.{RunFrom}
+use Rattle.about_store.specs.Run.{RunFrom}
 use Rattle.pool.specs.declared.Pool.{Pool}
-use Rattle.requests.specs.declared.Requests.{Requests}
+use Rattle.polling.specs.declared.Requests.{Requests}
 use Rattle.unit.specs.declared.Unit.{Unit}
 use Rattle.unit.specs.declared.Done.{Done}
 

@@ -11,7 +11,7 @@ use Rattle.pool.specs.Held.{heldOf}
 use Rattle.pool.specs.declared.Pool.{Pool}
 use Rattle.plant.specs.Plant.{settingsOf, installed}
 use Rattle.plant.specs.declared.Plant.{Plant}
-use Rattle.requests.specs.Requests.{requestsOf, requestsFrom}
+use Rattle.polling.specs.Requests.{requestsOf, requestsFrom}
 use Rattle.unit.specs.declared.Unit.{Unit}
 use Rattle.unit.specs.declared.Installed.{Installed}
 use Rattle.unit.specs.declared.Clock.{Clock}

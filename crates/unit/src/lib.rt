@@ -15,7 +15,7 @@ mod tick;
 
 use plant::Plant;
 use pool::Pool;
-use requests::Requests;
+use polling::Requests;
 use rules::Answer;
 use rules::Cause;
 use rules::Ceiling;
@@ -203,7 +203,7 @@ impl Unit {
         let Clock::At(t) = clock else {
             return self.refuse(Cause::ClockUnset);
         };
-        if !requests::is_status(status) {
+        if !polling::is_status(status) {
             return self.refuse(Cause::Range);
         }
         let plant = self.plant;

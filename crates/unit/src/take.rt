@@ -1,13 +1,13 @@
 // A file taken: read, its months counted, its rates put into the store, its flag or segment noted.
 ghost use mathlib.Core.Path.{_≡_};
-ghost use Rattle.requests.specs.Requests.{requestsOf};
+ghost use Rattle.polling.specs.Requests.{requestsOf};
 ghost use Rattle.unit.specs.Calls.{takeOf, storeAfterTake};
 ghost use Rattle.unit.specs.Taking.{takeSummary, filed};
 use crate::Clock;
 use crate::Done;
 use crate::Unit;
 use pool::Pool;
-use requests::Requests;
+use polling::Requests;
 use rules::Answer;
 use rules::Cause;
 use rules::Format;

@@ -3,7 +3,7 @@ use mathlib.Core.Path.{_≡_, _∙_, sym, ap}
 use mathlib.Core.Bool.{false}
 use borrow.Author.Needs.{needs}
 use denote.Ref.{now}
-use Rattle.words.specs.Words.{wordCount}
+use Rattle.script_words.specs.Words.{wordCount}
 use Rattle.script.specs.Ask.{isSilent, askOne}
 use Rattle.script.proofs.AskLaws.{nothing-asked, one-word, two-words, three-words, six-words, other-count}
 use Rattle.script.proofs.ask.ask_of.Statement.{statement}

@@ -6,7 +6,7 @@ use native.Mathlib.Omega.{arith}
 use denote.Ref.{now}
 use lib.ListN.{length}
 use Rattle.schedule.specs.Rates.{storedOf}
-use Rattle.agreement.specs.Run.{putRecords}
+use Rattle.about_store.specs.Run.{putRecords}
 use Rattle.rules.specs.Body.{sizeOf}
 use Rattle.body.specs.Walk.{Whole, recordsFrom}
 use Rattle.body.proofs.Walk.{within}

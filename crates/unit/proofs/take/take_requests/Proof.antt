@@ -1,6 +1,6 @@
 -- `take::take_requests` meets its contract, format by format. Assumes nothing.
 use mathlib.Core.Path.{refl, ap}
-use Rattle.requests.specs.Requests.{requestsOf}
+use Rattle.polling.specs.Requests.{requestsOf}
 use borrow.Author.Needs.{needs}
 use Rattle.unit.proofs.take.take_requests.Statement.{statement}
 use Rattle.unit.proofs.take.take_requests.Tie as tie

@@ -1,0 +1,155 @@
+-- A body read, taken apart and written again is itself.
+-- Assumes nothing.
+use Prim.Native.Nat.{ℕ, zero, suc, _≤_, _<_}
+use mathlib.Core.Path.{_≡_, _∙_, refl, sym, ap, subst}
+use mathlib.Core.Bool.{Bool, true, false, _&&_, false≢true}
+use mathlib.Core.List.{List, [], _∷_, _++_}
+use mathlib.Core.Option.{Option, none, some}
+use native.Mathlib.Omega.{arith}
+use lib.Dec.{lit<}
+use lib.ListN.{length, getD, getElem?, take, drop}
+use Rattle.rules.specs.Digits.{sameBytes}
+use Rattle.rules.specs.Name.{formatNumber}
+use Rattle.rules.specs.Body.{Record, Body, schedule, registration, countOf, parseBody, every, isSchedule, formOfBody}
+use Rattle.rules.specs.File.{File, Outcome, refuse, file, readFile, recordsIn, flagOf}
+use Rattle.rules.specs.Lister.{recordCount, rateCount}
+use Rattle.rules.specs.Writer.{Fields, Output, bytes, writtenOf, bufferAfter, writeBody}
+use Rattle.rules.specs.declared.Cause.{Cause}
+use Rattle.rules.specs.declared.Format.{Format}
+use Rattle.rules.specs.declared.Format.the-variants.{F201, F202, F203, F301}
+use Rattle.rules.specs.declared.Written.{Written}
+use Rattle.rules.specs.Reading.{summaryOf, readingOf}
+use Rattle.rules.specs.declared.Summary.{Summary}
+use Rattle.rules.specs.declared.Reading.the-variants.{Read, Refused}
+use Rattle.about_files.specs.Writing.{endToEnd, sharedSchedule, fieldsOf as fieldsIn}
+use Rattle.about_files.proofs.Booleans.{join, equal-same}
+use Rattle.about_files.proofs.Body.{schedule-facts}
+use Rattle.about_files.proofs.Rewritten.{read-written, read-written-with-plant}
+use Rattle.writer.specs.Fields.{fieldsOf}
+use Rattle.records.specs.Reading.{fieldIn, recordsOf, recordIn, ratesOutput}
+use Rattle.records.specs.declared.Field.{Field}
+use Rattle.records.specs.declared.Field.the-variants.{Schedule, Plant, Start, Next}
+use Rattle.records.proofs.Joined.{joined-length}
+use Rattle.about_bodies.specs.Written.{Holds}
+use Rattle.about_bodies.specs.Again.{anId, first, copied, fieldsAgain, Shared, BodyAgain}
+use Rattle.about_bodies.proofs.Records.{parsed}
+use Rattle.about_bodies.proofs.Written.{holds-bytes, first-bytes, rates-output}
+
+-- ---- what reading answered
+
+pub record FileRead (o : Outcome) (x : Summary) : Type 0 where
+  pub the-file : File
+  pub is : o ≡ file the-file
+  pub summary : x ≡ summaryOf the-file
+
+pub file-read : (o : Outcome) (x : Summary) → readingOf o ≡ Read x → FileRead o x
+unfolding readingOf
+file-read (refuse c) x e = let z : _≡_ {A = ℕ} 0 1 = cc in absurd (omega arith)
+file-read (file f) x e = record { the-file = f; is = refl; summary = cc }
+
+-- a schedule's body is records
+records-of : (f : Format) (b : Body) → isSchedule f ≡ true → formOfBody f b ≡ true → b ≡ schedule (recordsIn b)
+unfolding formOfBody
+records-of f (schedule rs) i e = refl
+records-of F201 (registration plant result) i e = absurd (false≢true e)
+records-of F202 (registration plant result) i e = absurd (false≢true e)
+records-of F203 (registration plant result) i e = absurd (false≢true e)
+records-of F301 (registration plant result) i e = absurd (false≢true i)
+
+-- ---- the records share a schedule ID
+
+all-same : (v : List ℕ) (rs : List Record) → ((i : ℕ) → i < length rs → fieldIn Schedule (getElem? rs i) ≡ v)
+    → every (λ r. sameBytes (r .schedule) v) rs ≡ true
+unfolding every
+all-same v [] h = refl
+all-same v (r ∷ rs) h = join (equal-same (h 0 (omega arith))) (all-same v rs (λ i l. h (suc i) (omega arith)))
+
+shares : (rs : List Record) → ((i : ℕ) → i < length rs → fieldIn Schedule (getElem? rs i) ≡ fieldIn Schedule (getElem? rs 0)) → sharedSchedule rs ≡ true
+shares [] h = refl
+shares (r ∷ rs) h = all-same (r .schedule) rs (λ i l. h (suc i) (omega arith))
+
+-- ---- the fields that are handed over are those of the records
+
+same-fields : (f : Format) (rs : List Record)
+    → fieldsOf (formatNumber f) (fieldIn Plant (getElem? rs 0)) (fieldIn Schedule (getElem? rs 0)) (fieldIn Start (getElem? rs 0)) (fieldIn Next (getElem? rs 0)) (endToEnd rs) (flagOf rs)
+    ≡ fieldsIn f rs
+same-fields f [] = refl
+same-fields f (r ∷ rs) = refl
+
+-- ---- the body
+
+module _ (plant : Option (List ℕ)) (name body space out : List ℕ) (f : File) (e : readFile plant name body ≡ file f) (i : isSchedule (f .name .format) ≡ true) where
+  abbrev fmt : Format
+  fmt = f .name .format
+
+  abbrev rs : List Record
+  rs = recordsIn (f .body)
+
+  body-is : f .body ≡ schedule rs
+  body-is = records-of fmt (f .body) i (parsed plant name body f e .1)
+
+  parses : parseBody fmt body ≡ some (schedule rs)
+  parses = parsed plant name body f e .0 ∙ ap some body-is
+
+  pub count-is : length rs ≡ countOf fmt
+  count-is = schedule-facts fmt rs (ap (formOfBody fmt) (sym body-is) ∙ parsed plant name body f e .1) .1
+
+  pub record-count : recordCount (f .body) ≡ countOf fmt
+  record-count = ap recordCount body-is ∙ count-is
+
+  pub record-is : (k : ℕ) → recordIn fmt body k ≡ getElem? rs k
+  unfolding recordIn
+  record-is k = rw parses refl
+
+  rates-count : rateCount (f .body) ≡ length (endToEnd rs)
+  rates-count = ap rateCount body-is ∙ sym (joined-length rs)
+
+  shared-is : Shared fmt body → sharedSchedule rs ≡ true
+  shared-is s = shares rs (λ k l. ap (fieldIn Schedule) (sym (record-is k)) ∙ s k (let c = count-is in omega arith) ∙ ap (fieldIn Schedule) (record-is 0))
+
+  written : (id : anId plant ≡ true) → Shared fmt body → length body ≤ length out → writeBody (fieldsIn fmt rs) (length out) ≡ bytes body
+  written id s h = go plant e id
+    where
+      go : (o : Option (List ℕ)) → readFile o name body ≡ file f → anId o ≡ true → writeBody (fieldsIn fmt rs) (length out) ≡ bytes body
+      go none q k = read-written name body f rs (length out) q body-is (shared-is s) h
+      go (some p) q k = read-written-with-plant p name body f rs (length out) k q body-is (shared-is s) h
+
+  module _ (x : Summary) (x≡ : x ≡ summaryOf f) (room : x .rates ≤ length space) where
+    format-is : x .format ≡ fmt
+    unfolding summaryOf
+    format-is = ap (λ (y : Summary). y .format) x≡
+
+    rates-is : x .rates ≡ length (endToEnd rs)
+    unfolding summaryOf
+    rates-is = ap (λ (y : Summary). y .rates) x≡ ∙ rates-count
+
+    flag-is : x .flag ≡ flagOf rs
+    unfolding summaryOf
+    flag-is = ap (λ (y : Summary). y .flag) x≡
+
+    rates-held : Holds (ratesOutput fmt body (length space)) space (endToEnd rs)
+    rates-held = holds-bytes space (endToEnd rs) (rates-output fmt body rs space i parses (let r = rates-is in omega arith))
+
+    copied-is : copied fmt body (x .rates) space ≡ endToEnd rs
+    copied-is = rw rates-is (first-bytes (ratesOutput fmt body (length space)) space (endToEnd rs) rates-held)
+
+    fields-are : fieldsAgain body x space ≡ fieldsIn fmt rs
+    fields-are = rw (format-is, copied-is, flag-is, record-is 0) (same-fields fmt rs)
+
+pub format-of : (x : Summary) (f : File) → x ≡ summaryOf f → x .format ≡ f .name .format
+unfolding summaryOf
+format-of x f e = ap (λ (y : Summary). y .format) e
+
+pub body-again : BodyAgain
+body-again plant name body space out x e id i s room h =
+    let r = file-read (readFile plant name body) x e in
+    let f = r .the-file in
+    let fm = format-of x f (r .summary) in
+    let i′ : isSchedule (f .name .format) ≡ true = subst (λ (g : Format). isSchedule g ≡ true) fm i in
+    let s′ : Shared (f .name .format) body = subst (λ (g : Format). Shared g body) fm s in
+    let copied = rates-held plant name body space out f (r .is) i′ x (r .summary) room in
+    let again = fields-are plant name body space out f (r .is) i′ x (r .summary) room in
+    let n = rates-is plant name body space out f (r .is) i′ x (r .summary) room in (
+      ap (λ (g : Format). writtenOf (ratesOutput g body (length space))) fm ∙ copied .answer ∙ ap (λ (k : ℕ). Written.Length k) (sym n),
+      holds-bytes out body (ap (λ (w : Fields). writeBody w (length out)) again ∙ written plant name body space out f (r .is) i′ id s′ h),
+    )

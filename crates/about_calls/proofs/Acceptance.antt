@@ -1,0 +1,130 @@
+-- Every lawful file that fits is accepted.
+use Prim.Native.Nat.{ℕ, zero, suc, _+_, _≤_}
+use mathlib.Core.Path.{_≡_, refl, sym, ap, _∙_}
+use mathlib.Core.Bool.{Bool, true, false, cond, not, _&&_, _||_}
+use mathlib.Core.List.{List, _∷_, map}
+use native.Mathlib.Omega.{arith}
+use lib.Dec.{leb, ltb}
+use lib.ListN.{length}
+use borrow.Author.Tests.{eq-eqb, le-ltb}
+use Rattle.rules.specs.Name.{encodeName}
+use Rattle.rules.specs.Body.{encodeBody}
+use Rattle.rules.specs.File.{File, file, takeFile, lawful, recordsIn}
+use Rattle.rules.specs.Store.{Held as HeldMonth, storeLength, member}
+use Rattle.rules.specs.Machine.{anyRecord, countBelow, one}
+use Rattle.about_files.proofs.Reading.{taken-exactly}
+use Rattle.pool.specs.Blocks.{isFree, monthOf, findOf, freeCount}
+use Rattle.pool.specs.Held.{Held, Sound, monthsBelow, heldMonths, heldBelow, soundPool}
+use Rattle.pool.specs.declared.Pool.{Pool}
+use Rattle.pool.specs.declared.Found.{Found}
+use Rattle.pool.specs.declared.Found.the-variants.{At, Nothing}
+use Rattle.pool.proofs.Laws.{find-at, find-in, free-is, months-held, months-once}
+use Rattle.pool.proofs.SoundLaws.{pool-facts}
+use Rattle.schedule.specs.Stored.{meets, missing, isNothing}
+use Rattle.about_store.specs.Run.{GoodFile, runStart, runLength}
+use Rattle.about_store.proofs.Rooms.{any-run}
+use Rattle.about_store.proofs.Bools.{isnt}
+use Rattle.about_store.proofs.Counts.{count-add, count-list, count-same, member-mem, mem-member}
+use Rattle.about_store.proofs.Laws.{taken-good}
+use Rattle.unit.specs.Values.{isSound}
+use Rattle.unit.specs.Rows.{firstOf}
+use Rattle.unit.specs.Calls.{takeOf, fullRow}
+use Rattle.unit.specs.declared.Unit.{Unit}
+use Rattle.unit.specs.declared.Clock.the-variants.{At}
+use Rattle.unit.proofs.CallLaws.{sound-is}
+use Rattle.about_calls.specs.Acceptance.{holdsMonth, together, AcceptsLawful}
+use Rattle.about_calls.proofs.Asks.{both}
+
+-- ---- the pool of a sound unit
+
+-- the held months as the pool lists them
+same-months : (k : ℕ) (p : Pool) → map (λ (h : HeldMonth). h .month) (heldBelow k p) ≡ monthsBelow k p
+unfolding heldBelow monthsBelow
+same-months zero p = refl
+same-months (suc k) p = go (isFree p k) (same-months k p)
+  where
+    go : (x : Bool) → map (λ (h : HeldMonth). h .month) (heldBelow k p) ≡ monthsBelow k p
+        → map (λ (h : HeldMonth). h .month) (cond x (heldBelow k p) (record { month = monthOf p k; block = k } ∷ heldBelow k p))
+        ≡ cond x (monthsBelow k p) (monthOf p k ∷ monthsBelow k p)
+    go true e = e
+    go false e = ap (λ (l : List ℕ). monthOf p k ∷ l) e
+
+pub few-months : (k : ℕ) (p : Pool) → length (monthsBelow k p) ≤ k
+unfolding monthsBelow
+few-months zero p = omega arith
+few-months (suc k) p = go (isFree p k) (few-months k p)
+  where
+    go : (x : Bool) → length (monthsBelow k p) ≤ k → length (cond x (monthsBelow k p) (monthOf p k ∷ monthsBelow k p)) ≤ suc k
+    go true l = omega arith
+    go false l = omega arith
+
+pub sound-pool : (u : Unit) → isSound u ≡ true → Sound (u .pool) (u .floor)
+sound-pool u e =
+    let q = Rattle.rules.specs.Store.soundRequests (Rattle.polling.specs.Requests.requestsOf (u .requests)) in
+    let c = Rattle.rules.specs.Store.soundClock (Rattle.unit.specs.Values.clockOf (u .clock)) in
+    let v = Rattle.plant.specs.Plant.validPlant (u .plant) && ltb (u .floor) 1200 in
+    let s = soundPool (u .pool) (u .floor) in
+    let e₃ = both (v && s && q && c) _ (sym (sound-is u) ∙ e) in
+    let e₂ = both (v && s && q) c (e₃ .0) in
+    let e₁ = both (v && s) q (e₂ .0) in
+    pool-facts (u .pool) (u .floor) (both v s (e₁ .0) .1)
+
+module _ (u : Unit) (good : isSound u ≡ true) where
+  p : Pool
+  p = u .pool
+
+  facts : Sound (u .pool) (u .floor)
+  facts = sound-pool u good
+
+  -- a month has a block exactly where it is held
+  nothing-held : (m : ℕ) → isNothing (findOf (u .pool) m) ≡ not (holdsMonth u m)
+  nothing-held m = rw (same-months 16 (u .pool)) (go (findOf (u .pool) m) refl)
+    where
+      go : (o : Found) → findOf (u .pool) m ≡ o → isNothing o ≡ not (member m (heldMonths (u .pool)))
+      go (At b) e = rw (mem-member m (heldMonths (u .pool)) (months-held (u .pool) m .1 (b, find-at (u .pool) m b e)))
+      go Nothing e = rw (isnt (λ d. none-at e (months-held (u .pool) m .0 (member-mem m (heldMonths (u .pool)) d))))
+        where
+          none-at : findOf (u .pool) m ≡ Nothing → Held (u .pool) m → ⊥
+          none-at e h =
+              let at : At (h .0) ≡ Nothing = sym (find-in (u .pool) (u .floor) m (h .0) facts (h .1)) ∙ e in
+              let z : _≡_ {A = ℕ} 0 1 = cc in
+              omega arith
+
+  pub held-count : countBelow 1200 (holdsMonth u) ≡ length (heldMonths (u .pool))
+  held-count =
+      count-same 1200 (holdsMonth u) (λ m. member m (heldMonths (u .pool))) (λ m l. ap (member m) (same-months 16 (u .pool)))
+      ∙ count-list 1200 (heldMonths (u .pool)) (months-once (u .pool) (u .floor) 16 (omega arith) facts)
+      (λ m d. let h = months-held (u .pool) m .0 d in omega (arith, facts .high m (h .0) (h .1)))
+
+  -- the months together are those held and those that have no block yet
+  pub together-is : (f : File) → GoodFile f
+      → together u f ≡ countBelow 1200 (holdsMonth u) + missing (u .pool) (u .floor) (runStart (recordsIn (f .body))) (runLength (recordsIn (f .body)))
+  unfolding together missing
+  together-is f g =
+      let rs = recordsIn (f .body) in
+      count-add 1200 (holdsMonth u) (λ m. leb (u .floor) m && meets m (runStart rs) (runLength rs) && isNothing (findOf (u .pool) m))
+      (λ m. leb (u .floor) m && anyRecord m rs || holdsMonth u m)
+      (λ m. rw (any-run m (runStart rs) rs g, nothing-held m) (table (leb (u .floor) m) (meets m (runStart rs) (runLength rs)) (holdsMonth u m)))
+    where
+      table : (x y h : Bool) → one (x && y || h) ≡ one h + one (x && y && not h)
+      table true true true = refl
+      table true true false = refl
+      table true false true = refl
+      table true false false = refl
+      table false y true = refl
+      table false y false = refl
+
+  fits : (f : File) → GoodFile f → together u f ≤ 16 → fullRow f u .applies ≡ false
+  unfolding fullRow
+  fits f g few =
+      let rs = recordsIn (f .body) in
+      le-ltb (freeCount (u .pool)) (missing (u .pool) (u .floor) (runStart rs) (runLength rs))
+      (omega (arith, together-is f g, held-count, free-is (u .pool), few-months 16 (u .pool)))
+
+pub accepts-lawful : AcceptsLawful
+unfolding takeOf firstOf
+accepts-lawful u store t f good long bytes clock law kind few =
+    let read : takeFile (u .plant .id) (encodeName (f .name)) (encodeBody (f .body)) ≡ file f =
+    taken-exactly (u .plant .id) (encodeName (f .name)) (encodeBody (f .body)) f .1 (record { nameBytes = refl; bodyBytes = refl; fields = law }, kind) in
+    let room = fits u good f (taken-good (u .plant .id) _ _ f read) few in
+    rw (eq-eqb (length store) storeLength long, good, bytes, ap Rattle.unit.specs.Rows.isUnset clock, read, room) refl

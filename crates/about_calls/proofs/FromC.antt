@@ -1,0 +1,125 @@
+-- The theorem for C: the unit's, and the list from C is the unit's; from jag_install on, accepted or refused. Assumes nothing.
+use Prim.Native.Nat.{ℕ}
+use mathlib.Core.Path.{_≡_, refl, ap, _∙_}
+use mathlib.Core.Bool.{Bool, true, false}
+use mathlib.Core.List.{List, [], _∷_}
+use native.Mathlib.Omega.{arith}
+use lib.Dec.{eqb}
+use lib.ListN.{length}
+use Rattle.rules.specs.Causes.{Reply, accepted, refused, numberOf}
+use Rattle.rules.specs.Machine.{Call, tick, clockLost, fileTaken, failure, due, ceilingOf, command, freeBlocks}
+use Rattle.rules.specs.Digits.{allAtMost}
+use Rattle.rules.specs.Plant.{Settings, installing, plantId, checkDigit, weightedSum, macAddress, allHex}
+use Rattle.rules.specs.Store.{storeLength}
+use Rattle.rules.specs.declared.Answer.{Answer}
+use Rattle.rules.specs.declared.Cause.{Cause}
+use Rattle.plant.specs.Plant.{validPlant, plantOf, noPlant, installed}
+use Rattle.plant.specs.declared.Installed.{Installed}
+use Rattle.plant.specs.declared.Plant.{Plant}
+use Rattle.plant.proofs.Laws.{accepted-keeps, accepted-values}
+use Rattle.unit.specs.Values.{isSound, freshUnit, installedUnit}
+use Rattle.unit.specs.Rows.{firstOf}
+use Rattle.unit.specs.Calls.{tickOf, lostOf, takeOf, storeAfterTake, failureOf, dueOf, ceilingOf as ceilingAt, commandOf, freeOf}
+use Rattle.unit.proofs.CallLaws.{sound-is}
+use Rattle.c_structs.specs.Held.{opened, shutOf, handed, newly}
+use Rattle.c_structs.specs.declared.structs.HeldUnit.{HeldUnit}
+use Rattle.c_structs.proofs.Handing.{unit-back}
+use Rattle.about_calls.specs.Lists.{HeldState, heldInstall, heldStep, heldReplies, heldAfter}
+use Rattle.about_calls.specs.Theorem.{fresh, unsoundReply}
+use Rattle.about_calls.specs.FromC.{EveryListFromC, InstalledFromC, AllRefused, UnsoundFromC, RefusedFromC}
+use Rattle.about_calls.proofs.Lists.{cause-refused, same-from-c}
+use Rattle.about_calls.proofs.EveryList.{every-list}
+
+pub every-list-from-c : EveryListFromC
+every-list-from-c p valid store cs =
+    let same = same-from-c cs (fresh p store) in
+    let held = every-list p valid store cs in
+    (same .0 ∙ held .0, same .1, held .1)
+
+-- ---- jag_install
+
+no-zero : (c : Cause) → numberOf c ≡ 0 → ⊥
+no-zero c e =
+    let both : accepted ≡ refused 0 = rw e at (cause-refused c accepted) in
+    let z : _≡_ {A = ℕ} 0 1 = cc in omega arith
+
+module _ (id mac : List ℕ) (set : Settings) where
+  -- what it hands out is the fresh unit of the plant that was kept
+  hands : (p : Plant) → installed id mac set .plant ≡ p → heldInstall id mac set .unit ≡ shutOf (freshUnit p)
+  unfolding newly installedUnit
+  hands p e = ap (λ (q : Plant). shutOf (freshUnit q)) e
+
+  pub accepts : heldInstall id mac set .cause ≡ 0 → installing id mac set ≡ Answer.Accepted
+  unfolding newly installedUnit installed
+  accepts zero = go (installing id mac set) refl
+    where
+      go : (a : Answer) → installing id mac set ≡ a → installing id mac set ≡ Answer.Accepted
+      go Answer.Accepted e = e
+      go (Answer.Refused c) e = absurd (no-zero c (rw e at zero))
+
+  refuses : (heldInstall id mac set .cause ≡ 0 → ⊥) → installed id mac set .plant ≡ noPlant
+  unfolding newly installedUnit installed
+  refuses other = go (installing id mac set) refl
+    where
+      go : (a : Answer) → installing id mac set ≡ a → installed id mac set .plant ≡ noPlant
+      go Answer.Accepted e = absurd (other (rw e))
+      go (Answer.Refused c) e = rw e
+
+pub installed-from-c : InstalledFromC
+installed-from-c id mac set zero store cs =
+    let a = accepts id mac set zero in
+    let p = plantOf id mac set in
+    let unit : heldInstall id mac set .unit ≡ shutOf (freshUnit p) = hands id mac set p (ap (λ (r : Installed). r .plant) (accepted-keeps id mac set a)) in
+    rw unit (every-list-from-c p (accepted-values id mac set a) store cs)
+
+-- ---- structs that stand for no sound unit
+
+module _ (u : HeldUnit) (bad : isSound (opened u) ≡ false) (store : List ℕ) where
+  abbrev s : HeldState
+  s = record { unit = u; store = store }
+
+  step-refused : (c : Call) → heldStep c s ≡ (unsoundReply store c, s)
+  unfolding heldStep tickOf lostOf takeOf storeAfterTake failureOf dueOf ceilingAt commandOf freeOf firstOf handed
+  step-refused (tick t) = go (eqb (length store) storeLength) refl
+    where
+      go : (b : Bool) → eqb (length store) storeLength ≡ b → heldStep (tick t) s ≡ (unsoundReply store (tick t), s)
+      go true e = rw (e, bad)
+      go false e = rw e
+  step-refused clockLost = rw bad
+  step-refused (fileTaken name body) = go (eqb (length store) storeLength) refl
+    where
+      go : (b : Bool) → eqb (length store) storeLength ≡ b → heldStep (fileTaken name body) s ≡ (unsoundReply store (fileTaken name body), s)
+      go true e = rw (e, bad)
+      go false e = rw e
+  step-refused (failure kind status) = rw bad
+  step-refused due = rw bad
+  step-refused (ceilingOf slot) = go (eqb (length store) storeLength) refl
+    where
+      go : (b : Bool) → eqb (length store) storeLength ≡ b → heldStep (ceilingOf slot) s ≡ (unsoundReply store (ceilingOf slot), s)
+      go true e = rw (e, bad)
+      go false e = rw e
+  step-refused command = rw bad
+  step-refused freeBlocks = rw bad
+
+  all-refused : AllRefused s
+  unfolding heldReplies heldAfter
+  all-refused [] = (refl, refl)
+  all-refused (c ∷ cs) =
+      let rest = all-refused cs in
+      rw (step-refused c) (ap (λ (rs : List Reply). unsoundReply store c ∷ rs) (rest .0), rest .1)
+
+pub unsound-from-c : UnsoundFromC
+unsound-from-c u bad store = all-refused u bad store
+
+no-plant : validPlant noPlant ≡ false
+unfolding validPlant plantId allAtMost checkDigit weightedSum macAddress allHex
+no-plant = refl
+
+no-sound : isSound (freshUnit noPlant) ≡ false
+unfolding freshUnit
+no-sound = rw (sound-is (freshUnit noPlant), no-plant)
+
+pub refused-from-c : RefusedFromC
+refused-from-c id mac set other store =
+    let unit : heldInstall id mac set .unit ≡ shutOf (freshUnit noPlant) = hands id mac set noPlant (refuses id mac set other) in
+    rw unit (unsound-from-c (shutOf (freshUnit noPlant)) (rw (unit-back (freshUnit noPlant)) no-sound) store)

@@ -1,0 +1,103 @@
+-- A list of calls from C is the unit's own: call by call, then over the list. Assumes nothing.
+use Prim.Native.Nat.{ℕ}
+use mathlib.Core.Path.{_≡_, refl, ap}
+use mathlib.Core.List.{List, [], _∷_}
+use mathlib.Core.Option.{Option, none, some}
+use Rattle.rules.specs.Causes.{Reply, accepted, refused, numberOf, ofAnswer, ofDue, ofCeiling, ofCommand, ofFreeBlocks}
+use Rattle.rules.specs.Machine.{Call, tick, clockLost, fileTaken, failure, due, ceilingOf, command, freeBlocks}
+use Rattle.rules.specs.File.{takeFile}
+use Rattle.rules.specs.declared.Cause.{Cause}
+use Rattle.rules.specs.declared.Ceiling.{Ceiling}
+use Rattle.rules.specs.declared.Command.{Command}
+use Rattle.rules.specs.declared.Due.{Due}
+use Rattle.rules.specs.declared.FreeBlocks.{FreeBlocks}
+use Rattle.unit.specs.Rows.{firstOf, lengthRow, unitRow, soundRow, clockRow, tickRow, statusRow}
+use Rattle.unit.specs.Calls.{ticked, lost, taken, takeRows, withFailure, doneBy, tickOf, lostOf, takeOf, storeAfterTake, failureOf, dueOf, ceilingOf as ceilingAt, commandOf, freeOf}
+use Rattle.unit.specs.Step.{State, stepDone, step, replies, after}
+use Rattle.unit.specs.declared.Unit.{Unit}
+use Rattle.unit.specs.declared.Done.{Done}
+use Rattle.c_structs.specs.Held.{opened, shutOf, handed}
+use Rattle.c_structs.specs.Answers.{dueNumbers, ceilingNumbers, commandNumber, blocksNumber}
+use Rattle.about_calls.specs.Lists.{asRefused, dueMeans, ceilingMeans, commandMeans, blocksMeans, HeldState, HeldStep, handedStep, heldStep, heldReplies, heldAfter, shutState, SameFromC}
+use Rattle.c_structs.proofs.Handing.{unit-back}
+
+-- ---- the answers
+
+-- no cause has the number 0
+pub cause-refused : (c : Cause) (r : Reply) → asRefused (numberOf c) r ≡ refused (numberOf c)
+cause-refused Cause.PlantId r = refl
+cause-refused Cause.Setting r = refl
+cause-refused Cause.StoreLength r = refl
+cause-refused Cause.Unsound r = refl
+cause-refused Cause.ClockUnset r = refl
+cause-refused Cause.Range r = refl
+cause-refused Cause.Name r = refl
+cause-refused Cause.OtherPlant r = refl
+cause-refused Cause.Form r = refl
+cause-refused Cause.Date r = refl
+cause-refused Cause.Rate r = refl
+cause-refused Cause.Checksum r = refl
+cause-refused Cause.RecordPlant r = refl
+cause-refused Cause.Full r = refl
+cause-refused Cause.Buffer r = refl
+cause-refused Cause.ErrorFile r = refl
+
+ceiling-means : (a : Ceiling) → ceilingMeans (ceilingNumbers a) ≡ ofCeiling a
+ceiling-means (Ceiling.Rated r p) = refl
+ceiling-means Ceiling.NoRate = refl
+ceiling-means (Ceiling.Refused c) = cause-refused c _
+
+command-means : (a : Command) → commandMeans (commandNumber a) ≡ ofCommand a
+command-means (Command.Parts n) = refl
+command-means (Command.Refused c) = cause-refused c _
+
+blocks-means : (a : FreeBlocks) → blocksMeans (blocksNumber a) ≡ ofFreeBlocks a
+blocks-means (FreeBlocks.Blocks n) = refl
+blocks-means (FreeBlocks.Refused c) = cause-refused c _
+
+due-means : (a : Due) → dueMeans (dueNumbers a) ≡ ofDue a
+due-means Due.Update = refl
+due-means (Due.Fixed w) = refl
+due-means Due.Nothing = refl
+due-means (Due.Refused c) = cause-refused c _
+
+-- ---- a call
+
+-- an accepted call hands out the struct of its unit, a refused one the struct that came in
+done-same : (o : Option Cause) (new old : Unit) (store : List ℕ) → handedStep (handed (shutOf old) (doneBy o new old)) store
+    ≡ (stepDone (doneBy o new old) store .0, shutState (stepDone (doneBy o new old) store .1))
+unfolding handed
+done-same none new old store = refl
+done-same (some c) new old store = ap (λ (r : Reply). (r, record { unit = shutOf old; store = store })) (cause-refused c accepted)
+
+step-same : (c : Call) (s : State) → heldStep c (shutState s) ≡ (step c s .0, shutState (step c s .1))
+unfolding heldStep step tickOf lostOf takeOf failureOf
+step-same (tick t) s =
+    let u = s .unit in
+    let rows = lengthRow (s .store) ∷ soundRow u (s .store) ∷ tickRow t ∷ [] in
+    rw (unit-back u) (done-same (firstOf rows) (ticked (s .store) t u) u (s .store))
+step-same clockLost s =
+    let u = s .unit in
+    rw (unit-back u) (done-same (firstOf (unitRow u ∷ [])) (lost u) u (s .store))
+step-same (fileTaken name body) s =
+    let u = s .unit in
+    let rows = takeRows u (s .store) name body in
+    rw (unit-back u) (done-same (firstOf rows) (taken (takeFile (u .plant .id) name body) (s .store) u) u (storeAfterTake u (s .store) name body))
+step-same (failure kind status) s =
+    let u = s .unit in
+    let rows = unitRow u ∷ clockRow u ∷ statusRow status ∷ [] in
+    rw (unit-back u) (done-same (firstOf rows) (withFailure kind status u) u (s .store))
+step-same due s = rw (unit-back (s .unit)) (ap (λ (r : Reply). (r, shutState s)) (due-means (dueOf (s .unit))))
+step-same (ceilingOf slot) s =
+    rw (unit-back (s .unit)) (ap (λ (r : Reply). (r, shutState s)) (ceiling-means (ceilingAt (s .unit) (s .store) slot)))
+step-same command s = rw (unit-back (s .unit)) (ap (λ (r : Reply). (r, shutState s)) (command-means (commandOf (s .unit))))
+step-same freeBlocks s = rw (unit-back (s .unit)) (ap (λ (r : Reply). (r, shutState s)) (blocks-means (freeOf (s .unit))))
+
+-- ---- a list of them
+
+pub same-from-c : SameFromC
+unfolding heldReplies heldAfter replies after
+same-from-c [] s = (refl, refl)
+same-from-c (c ∷ cs) s =
+    let rest = same-from-c cs (step c s .1) in
+    rw (step-same c s) (ap (λ (rs : List Reply). step c s .0 ∷ rs) (rest .0), rest .1)

@@ -1,0 +1,56 @@
+-- The latest rate, and what stays untouched.
+use mathlib.Core.Path.{_≡_, refl, sym, _∙_, subst}
+use mathlib.Core.Bool.{false≢true}
+use mathlib.Core.Option.{Option, none, some}
+use lib.ListN.{length}
+use Rattle.rules.specs.File.{Outcome, file, takeFile, recordsIn}
+use Rattle.rules.specs.Machine.{tick, clockLost, fileTaken, failure, due, ceilingOf, command, freeBlocks, anyRecord, freshMachine, after as machineAfter}
+use Rattle.rules.specs.declared.Answer.{Answer}
+use Rattle.rules.specs.declared.Cause.{Cause}
+use Rattle.schedule.specs.Stored.{Stored}
+use Rattle.about_store.specs.Run.{putRecords}
+use Rattle.about_store.specs.Untouched.{Untouched}
+use Rattle.about_store.proofs.Laws.{rate-agrees, records-untouched}
+use Rattle.unit.specs.Rows.{firstOf}
+use Rattle.unit.specs.Calls.{doneBy, takeRows, takeOf, taken, withFile, storeBy, storeWith, storeAfterTake}
+use Rattle.unit.specs.Step.{step, after}
+use Rattle.unit.specs.declared.Unit.{Unit}
+use Rattle.about_calls.specs.Theorem.{fresh, told}
+use Rattle.about_calls.specs.Sentences.{LatestRate, TakeUntouched, OthersUntouched}
+use Rattle.about_calls.proofs.Follows.{stored}
+use Rattle.about_calls.proofs.Ticking.{agree-of}
+use Rattle.about_calls.proofs.EveryList.{fresh-follows, list-follows}
+
+pub latest-rate : LatestRate
+latest-rate p valid store long cs s l =
+    let r = list-follows p valid (length store) cs (fresh p store) freshMachine (fresh-follows p valid store) .1 in
+    let M = machineAfter (told p store) cs freshMachine in
+    rate-agrees (stored (after cs (fresh p store))) M (agree-of (after cs (fresh p store)) M (r .size ∙ long) (r .kept)) s l
+
+-- no row applies to a call that is accepted
+accepted-row : (o : Option Cause) (new old : Unit) → doneBy o new old .answer ≡ Answer.Accepted → o ≡ none
+accepted-row none new old e = refl
+accepted-row (some c) new old e = cc
+
+pub take-untouched : TakeUntouched
+unfolding takeOf storeAfterTake withFile
+take-untouched u store name body f long read done =
+    let st : Stored = record { pool = u .pool; store = store } in
+    let all : Untouched (u .floor) (λ m. anyRecord m (recordsIn (f .body))) st (putRecords (u .floor) (recordsIn (f .body)) st) =
+    records-untouched (u .floor) (recordsIn (f .body)) st long in
+    let from : Option Cause → Outcome → Stored =
+    λ o x. record { pool = doneBy o (taken x store u) u .unit .pool; store = storeBy o (storeWith x store u) store } in
+    let free = accepted-row (firstOf (takeRows u store name body)) (taken (takeFile (u .plant .id) name body) store u) u done in
+    subst (λ (x : Outcome). Untouched (u .floor) (λ m. anyRecord m (recordsIn (f .body))) st (from (firstOf (takeRows u store name body)) x)) (sym read)
+    (subst (λ (o : Option Cause). Untouched (u .floor) (λ m. anyRecord m (recordsIn (f .body))) st (from o (file f))) (sym free) all)
+
+pub others-untouched : OthersUntouched
+unfolding step
+others-untouched (tick t) s = (λ e. refl, λ e. absurd (false≢true e))
+others-untouched clockLost s = (λ e. refl, λ e. absurd (false≢true e))
+others-untouched (fileTaken name body) s = (λ e. absurd (false≢true (sym e)), λ e. absurd (false≢true e))
+others-untouched (failure kind status) s = (λ e. refl, λ e. absurd (false≢true e))
+others-untouched due s = (λ e. refl, λ e. refl)
+others-untouched (ceilingOf slot) s = (λ e. refl, λ e. refl)
+others-untouched command s = (λ e. refl, λ e. refl)
+others-untouched freeBlocks s = (λ e. refl, λ e. refl)

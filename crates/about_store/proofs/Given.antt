@@ -1,0 +1,133 @@
+-- Laws of the pool beyond its own: which blocks hold which months after one is given or some are released, and how many are free.
+-- Assumes nothing.
+use mathlib.Core.Path.{_≡_, refl, sym, ap, _∙_}
+use mathlib.Core.Logic.{_⊎_, inl, inr, _↔_}
+use mathlib.Core.Bool.{Bool, true, false, cond, not, _&&_, _||_, true≢false, false≢true}
+use mathlib.Core.List.{List, _∷_, map}
+use Prim.Native.Nat.{ℕ, zero, suc, _+_, _-_, _^_, _≤_, _<_}
+use native.Mathlib.Omega.{arith}
+use lib.Dec.{eqb, ltb}
+use lib.ListN.{length, getD, set, length-set}
+use lib.Seq.{getD-set-same, getD-set-other}
+use borrow.Author.Tests.{eqb-true, eqb-false, eq-eqb, ltb-false}
+use Rattle.rules.specs.Machine.{countBelow}
+use Rattle.rules.specs.Store.{Held as HeldMonth, member}
+use Rattle.pool.specs.Blocks.{isFree, monthOf, freeCount, findOf, given, freeAfter, releaseOf}
+use Rattle.pool.specs.Held.{InBlock, Held, Sound, monthsBelow, heldMonths, heldBelow}
+use Rattle.pool.specs.declared.Pool.{Pool}
+use Rattle.pool.specs.declared.Found.the-variants.{At, Nothing}
+use Rattle.pool.proofs.BelowLaws.{bit-number, number-lt}
+use Rattle.pool.proofs.Laws.{find-in, free-is, months-held, months-once}
+use Rattle.about_store.specs.Untouched.{Keeps}
+use Rattle.about_store.proofs.Bools.{same}
+use Rattle.about_store.proofs.Counts.{count-same, count-list, member-mem, mem-member}
+
+-- ---- a block given
+
+free-given : (p : Pool) (m b c : ℕ) → c < 16 → isFree (given p m b) c ≡ isFree p c && not (eqb c b)
+free-given p m b c h = bit-number 16 (λ c. isFree p c && not (eqb c b)) c h
+
+module _ (p : Pool) (m b : ℕ) (long : length (p .months) ≡ 16) (l : b < 16) where
+  and-not : (x : Bool) → x && true ≡ false → x ≡ false
+  and-not true e = e
+  and-not false e = refl
+
+  -- a block that is used afterwards is the one given, or was used before and has the same month
+  pub given-cases : (x c : ℕ) → InBlock (given p m b) x c → ((x ≡ m) × (c ≡ b)) ⊎ ((c ≡ b → ⊥) × InBlock p x c)
+  given-cases x c i = go (eqb c b) refl
+    where
+      go : (t : Bool) → eqb c b ≡ t → ((x ≡ m) × (c ≡ b)) ⊎ ((c ≡ b → ⊥) × InBlock p x c)
+      go true e =
+          let same = eqb-true c b e in
+          inl (sym (i .month) ∙ ap (λ (k : ℕ). getD (set (p .months) b m) k 0) same ∙ getD-set-same (p .months) b m 0 (omega arith), same)
+      go false e = inr (
+        eqb-false c b e,
+        record {
+          below = i .below;
+          used = and-not (isFree p c) (rw e at (sym (free-given p m b c (i .below)) ∙ i .used));
+          month = sym (getD-set-other (p .months) b c m 0 (eqb-false c b e)) ∙ i .month;
+        },
+      )
+
+module _ (p : Pool) (m b : ℕ) (long : length (p .months) ≡ 16) (l : b < 16) (free : isFree p b ≡ true) where
+  pub given-new : InBlock (given p m b) m b
+  given-new = record { below = l; used = free-given p m b b l ∙ rw (free, eq-eqb b b refl); month = getD-set-same (p .months) b m 0 (omega arith) }
+
+  pub given-keeps : Keeps p (given p m b)
+  given-keeps = record {
+    long = length-set (p .months) b m ∙ long;
+    kept = λ x c i. record {
+      below = i .below;
+      used = free-given p m b c (i .below) ∙ rw (i .used);
+      month = getD-set-other (p .months) b c m 0 (λ e. false≢true (sym (i .used) ∙ ap (isFree p) e ∙ free)) ∙ i .month;
+    };
+  }
+
+pub given-bits : (p : Pool) (m b : ℕ) → given p m b .free < 2 ^ 16
+given-bits p m b = number-lt 16 (λ c. isFree p c && not (eqb c b))
+
+-- ---- blocks released
+
+module _ (p : Pool) (floor : ℕ) where
+  pub released-in : (x c : ℕ) → InBlock (releaseOf p floor) x c → InBlock p x c × (floor ≤ x)
+  unfolding releaseOf
+  released-in x c i =
+      let w = or-parts (isFree p c) (ltb (monthOf p c) floor) (sym (bit-number 16 (freeAfter p floor) c (i .below)) ∙ i .used) in
+      (record { below = i .below; used = w .0; month = i .month }, rw (i .month) at (ltb-false (monthOf p c) floor (w .1)))
+    where
+      or-parts : (x y : Bool) → x || y ≡ false → (x ≡ false) × (y ≡ false)
+      or-parts true y e = absurd (true≢false e)
+      or-parts false y e = (refl, e)
+
+  pub released-bits : releaseOf p floor .free < 2 ^ 16
+  unfolding releaseOf
+  released-bits = number-lt 16 (freeAfter p floor)
+
+  pub released-months : releaseOf p floor .months ≡ p .months
+  unfolding releaseOf
+  released-months = refl
+
+-- ---- what find answers
+
+pub found-not : (p : Pool) (floor m : ℕ) → Sound p floor → findOf p m ≡ Nothing → Held p m → ⊥
+found-not p floor m s e h =
+    let z : At (h .0) ≡ Nothing = sym (find-in p floor m (h .0) s (h .1)) ∙ e in
+    let w : _≡_ {A = ℕ} 0 1 = cc in
+    omega arith
+
+-- ---- the held months as a list, and as a test
+
+months-few : (k : ℕ) (p : Pool) → length (monthsBelow k p) ≤ k
+unfolding monthsBelow
+months-few zero p = omega arith
+months-few (suc k) p = go (isFree p k) (months-few k p)
+  where
+    go : (x : Bool) → length (monthsBelow k p) ≤ k → length (cond x (monthsBelow k p) (monthOf p k ∷ monthsBelow k p)) ≤ suc k
+    go true h = omega arith
+    go false h = omega arith
+
+pub held-months : (k : ℕ) (p : Pool) → map (λ (h : HeldMonth). h .month) (heldBelow k p) ≡ monthsBelow k p
+unfolding monthsBelow heldBelow
+held-months zero p = refl
+held-months (suc k) p = go (isFree p k) (held-months k p)
+  where
+    go : (x : Bool) → map (λ (h : HeldMonth). h .month) (heldBelow k p) ≡ monthsBelow k p
+        → map (λ (h : HeldMonth). h .month) (cond x (heldBelow k p) (record { month = monthOf p k; block = k } ∷ heldBelow k p))
+        ≡ cond x (monthsBelow k p) (monthOf p k ∷ monthsBelow k p)
+    go true e = e
+    go false e = ap (λ (l : List ℕ). monthOf p k ∷ l) e
+
+module _ (p : Pool) (floor : ℕ) (s : Sound p floor) (test : ℕ → Bool) (is : (m : ℕ) → Held p m ↔ (test m ≡ true)) where
+  pub member-held : (m : ℕ) → member m (heldMonths p) ≡ test m
+  member-held m =
+      same (λ e. is m .0 (months-held p m .0 (member-mem m (heldMonths p) e)))
+      (λ e. mem-member m (heldMonths p) (months-held p m .1 (is m .1 e)))
+
+  -- the free blocks and the held months are sixteen
+  pub free-held : freeCount p + countBelow 1200 test ≡ 16
+  free-held =
+      let few = months-few 16 p in
+      let all = count-list 1200 (heldMonths p) (months-once p floor 16 (omega arith) s)
+      (λ m d. let w = months-held p m .0 d in omega (arith, s .high m (w .0) (w .1))) in
+      let eq = count-same 1200 (λ m. member m (heldMonths p)) test (λ m l. member-held m) in
+      omega (arith, free-is p)

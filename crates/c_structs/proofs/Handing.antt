@@ -1,0 +1,94 @@
+-- The struct that C holds: proofs of what specs/Handing says. Assumes nothing.
+use Prim.Native.Nat.{ℕ}
+use mathlib.Core.Path.{_≡_, refl, ap, sym, _∙_}
+use mathlib.Core.Bool.{Bool, true, false, cond, _&&_, false≢true}
+use lib.Dec.{eqb}
+use borrow.Author.Tests.{eqb-true}
+use Rattle.rules.specs.Store.{soundClock}
+use Rattle.rules.specs.declared.Answer.{Answer}
+use Rattle.pool.proofs.BelowLaws.{and-true}
+use Rattle.unit.specs.Values.{clockOf, isSound}
+use Rattle.unit.specs.declared.Unit.{Unit}
+use Rattle.unit.specs.declared.Done.{Done}
+use Rattle.unit.specs.declared.Clock.{Clock}
+use Rattle.unit.specs.declared.Clock.the-variants.{Unset, At}
+use Rattle.unit.proofs.SoundParts.{sound-parts}
+use Rattle.c_structs.specs.Held.{never, clockFrom, markOf, secondOf, isHeldClock, opened, shutOf, handed, handedBy}
+use Rattle.c_structs.specs.Handing.{UnitBack, HeldByUnit, StructBack, NoUnit, RefusalHandsBack}
+use Rattle.c_structs.specs.declared.structs.HeldUnit.{HeldUnit}
+
+clock-back : (c : Clock) → clockFrom (markOf c) (secondOf c) ≡ c
+unfolding clockFrom
+clock-back Unset = refl
+clock-back (At t) = refl
+
+pub unit-back : UnitBack
+unfolding opened shutOf
+unit-back u = rw (clock-back (u .clock)) refl
+
+clock-held : (c : Clock) → isHeldClock (markOf c) (secondOf c) ≡ true
+unfolding isHeldClock
+clock-held Unset = refl
+clock-held (At t) = refl
+
+pub held-by-unit : HeldByUnit
+unfolding shutOf
+held-by-unit u = clock-held (u .clock)
+
+-- ---- a struct that a unit converts to comes back as it was
+
+module _ (m s : ℕ) where
+  abbrev Back : Type 0
+  Back = (markOf (clockFrom m s) ≡ m) × (secondOf (clockFrom m s) ≡ s)
+
+  fields-by : (a b : Bool) → eqb m 1 ≡ a → (eqb m 0 && eqb s 0) ≡ b → isHeldClock m s ≡ true → Back
+  unfolding clockFrom isHeldClock
+  fields-by true b e k h = rw e (sym (eqb-true m 1 e), refl)
+  fields-by false true e k h =
+      let zeros = and-true (eqb m 0) (eqb s 0) k in
+      rw (e, k) (sym (eqb-true m 0 (zeros .0)), sym (eqb-true s 0 (zeros .1)))
+  fields-by false false e k h = absurd (false≢true (rw (e, k) at h))
+
+  fields-back : isHeldClock m s ≡ true → Back
+  fields-back h = fields-by (eqb m 1) (eqb m 0 && eqb s 0) refl refl h
+
+  never-by : (a b : Bool) → eqb m 1 ≡ a → (eqb m 0 && eqb s 0) ≡ b → isHeldClock m s ≡ false → clockFrom m s ≡ never
+  unfolding clockFrom isHeldClock
+  never-by true b e k h = absurd (false≢true (sym (rw e at h)))
+  never-by false true e k h = absurd (false≢true (sym (rw (e, k) at h)))
+  never-by false false e k h = rw (e, k) refl
+
+  never-from : isHeldClock m s ≡ false → clockFrom m s ≡ never
+  never-from h = never-by (eqb m 1) (eqb m 0 && eqb s 0) refl refl h
+
+pub struct-back : StructBack
+unfolding opened shutOf
+struct-back h e =
+    let back = fields-back (h .«clock_set») (h .clock) e in
+    rw (back .0, back .1) refl
+
+-- ---- any other struct is no sound unit
+
+opened-clock : (h : HeldUnit) → opened h .clock ≡ clockFrom (h .«clock_set») (h .clock)
+unfolding opened
+opened-clock h = refl
+
+pub no-unit : NoUnit
+no-unit h e = go (isSound (opened h)) refl
+  where
+    late : soundClock (clockOf (opened h .clock)) ≡ false
+    late = rw (opened-clock h, never-from (h .«clock_set») (h .clock) e) refl
+
+    go : (t : Bool) → isSound (opened h) ≡ t → isSound (opened h) ≡ false
+    go false k = k
+    go true k = absurd (false≢true (sym late ∙ sound-parts (opened h) k .clock))
+
+-- ---- refusals
+
+refusal-by : (a : Answer) (h : HeldUnit) (u : Unit) → (handedBy a h u .cause ≡ 0 → ⊥) → handedBy a h u .unit ≡ h
+refusal-by Answer.Accepted h u n = absurd (n refl)
+refusal-by (Answer.Refused c) h u n = refl
+
+pub refusal-hands-back : RefusalHandsBack
+unfolding handed
+refusal-hands-back h d n = refusal-by (d .answer) h (d .unit) n

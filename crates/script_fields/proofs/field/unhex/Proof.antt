@@ -1,0 +1,45 @@
+-- `fields::field::unhex` meets its contract. Assumes nothing.
+use mathlib.Core.Path.{sym, _∙_}
+use native.Mathlib.Omega.{arith}
+use borrow.Author.Needs.{needs}
+use borrow.Author.Tests.{not-true, not-false}
+use denote.Ref.{now}
+use Rattle.script_fields.specs.Hex.{hexBytes}
+use Rattle.script_fields.proofs.HexLaws.{hex-length}
+use Rattle.script_fields.proofs.FieldLaws.{says-none, says-long, says-put, hex-none, hex-some}
+use Rattle.script_fields.proofs.field.unhex.Statement.{statement}
+use Rattle.script_fields.proofs.field.unhex.Tie as tie
+
+is-hex-requires : tie.Need-is-hex-requires
+is-hex-requires c κs = search needs
+
+returns : tie.Need-returns
+returns c =
+    let a = c .before .before .before .before .args in
+    says-none (now (a .out)) (hex-none (now (a .digits)) (sym (c .before .is-hex .ensures) ∙ not-true _ (c .if1 .taken)))
+
+returns-2 : tie.Need-returns-2
+returns-2 c =
+    let h = c .before .before in
+    let a = h .before .before .before .args in
+    let s = now (a .digits) in
+    says-long (now (a .out)) (hexBytes s) (hex-some s (sym (h .is-hex .ensures) ∙ not-false _ (c .before .if1 .left))) (omega (arith, hex-length s))
+
+put-bytes-requires : tie.Need-put-bytes-requires
+put-bytes-requires c κs =
+    let e = c .before .before in
+    (sym (e .before .is-hex .ensures) ∙ not-false _ (e .if1 .left), c .before .if2 .left)
+
+same-length : tie.Need-same-length
+same-length c = search needs
+
+returns-3 : tie.Need-returns-3
+returns-3 c =
+    let p = c .before .before in
+    let e = p .before .before .before in
+    let a = e .before .before .before .before .args in
+    let s = now (a .digits) in
+    says-put (now (a .out)) (hexBytes s) (hex-some s (sym (e .before .is-hex .ensures) ∙ not-false _ (e .if1 .left))) (sym (hex-length s)) (p .put-bytes .ensures) (omega (arith, hex-length s, p .before .before .if2 .left))
+
+pub unhex-spec : {M : Type 1} → statement M
+unhex-spec = tie.close (tie.spec is-hex-requires returns returns-2 put-bytes-requires same-length returns-3)
