@@ -22,7 +22,7 @@ use Rattle.about_store.proofs.Shown.{Plain, rate-view, free-view}
 use Rattle.unit.specs.Values.{clockOf, isSound, requestsFrom}
 use Rattle.unit.specs.Rows.{isUnset}
 use Rattle.unit.specs.Calls.{lost, ceilingAnswer}
-use Rattle.unit.specs.Step.{stepDone, step}
+use Rattle.taking.specs.Step.{stepDone, step}
 use Rattle.unit.specs.declared.Done.{Done}
 use Rattle.unit.specs.declared.Clock.{Clock}
 use Rattle.unit.specs.declared.Clock.the-variants.{Unset, At}

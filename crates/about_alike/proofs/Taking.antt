@@ -23,8 +23,8 @@ use Rattle.about_store.proofs.Rooms.{records-plain, lacking, missing-view, held
 use Rattle.about_store.proofs.Records.{recordsView, records-floor, records-shows}
 use Rattle.unit.specs.Values.{requestsFrom}
 use Rattle.unit.specs.Rows.{isUnset}
-use Rattle.unit.specs.Calls.{withFile, storeWith, fullRow}
-use Rattle.unit.specs.Step.{State}
+use Rattle.taking.specs.Taken.{withFile, storeWith, fullRow}
+use Rattle.taking.specs.Step.{State}
 use Rattle.unit.specs.declared.Clock.{Clock}
 use Rattle.unit.specs.declared.Clock.the-variants.{Unset, At}
 use Rattle.about_calls.proofs.UnitLaws as unit

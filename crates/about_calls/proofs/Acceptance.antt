@@ -28,7 +28,7 @@ use Rattle.about_store.proofs.Counts.{count-add, count-list, count-same, member
 use Rattle.about_store.proofs.Laws.{taken-good}
 use Rattle.unit.specs.Values.{isSound}
 use Rattle.unit.specs.Rows.{firstOf}
-use Rattle.unit.specs.Calls.{takeOf, fullRow}
+use Rattle.taking.specs.Taken.{takeOf, fullRow}
 use Rattle.unit.specs.declared.Unit.{Unit}
 use Rattle.unit.specs.declared.Clock.the-variants.{At}
 use Rattle.unit.proofs.CallLaws.{sound-is}

@@ -5,7 +5,7 @@ use mathlib.Core.List.{List, [], _∷_}
 use Rattle.rules.specs.Machine.{Machine, Call, step as machineStep}
 use Rattle.plant.specs.Plant.{plantOf}
 use Rattle.plant.proofs.Laws.{accepted-values}
-use Rattle.unit.specs.Step.{State, step, after}
+use Rattle.taking.specs.Step.{State, step, after}
 use Rattle.unit.specs.declared.Unit.{Unit}
 use Rattle.c_structs.proofs.Handing.{unit-back}
 use Rattle.about_calls.specs.Theorem.{fresh, toldBy}

@@ -19,7 +19,8 @@ use Rattle.plant.specs.declared.Plant.{Plant}
 use Rattle.plant.proofs.Laws.{accepted-keeps, accepted-values}
 use Rattle.unit.specs.Values.{isSound, freshUnit, installedUnit}
 use Rattle.unit.specs.Rows.{firstOf}
-use Rattle.unit.specs.Calls.{tickOf, lostOf, takeOf, storeAfterTake, failureOf, dueOf, ceilingOf as ceilingAt, commandOf, freeOf}
+use Rattle.unit.specs.Calls.{tickOf, lostOf, failureOf, dueOf, ceilingOf as ceilingAt, commandOf, freeOf}
+use Rattle.taking.specs.Taken.{takeOf, storeAfterTake}
 use Rattle.unit.proofs.CallLaws.{sound-is}
 use Rattle.c_structs.specs.Held.{opened, shutOf, handed, newly}
 use Rattle.c_structs.specs.declared.structs.HeldUnit.{HeldUnit}

@@ -23,7 +23,8 @@ use Rattle.about_store.specs.Run.{GoodFile, runStart, runLength}
 use Rattle.about_store.proofs.Laws.{taken-good}
 use Rattle.unit.specs.Values.{isSound}
 use Rattle.unit.specs.Rows.{firstOf, isUnset}
-use Rattle.unit.specs.Calls.{doneBy, takeRows, takeOf, taken, fullRow}
+use Rattle.unit.specs.Calls.{doneBy}
+use Rattle.taking.specs.Taken.{takeRows, takeOf, taken, fullRow}
 use Rattle.unit.specs.declared.Unit.{Unit}
 use Rattle.unit.specs.declared.Clock.{Clock}
 use Rattle.about_calls.specs.Acceptance.{together}

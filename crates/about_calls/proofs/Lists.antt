@@ -12,8 +12,9 @@ use Rattle.rules.specs.declared.Command.{Command}
 use Rattle.rules.specs.declared.Due.{Due}
 use Rattle.rules.specs.declared.FreeBlocks.{FreeBlocks}
 use Rattle.unit.specs.Rows.{firstOf, lengthRow, unitRow, soundRow, clockRow, tickRow, statusRow}
-use Rattle.unit.specs.Calls.{ticked, lost, taken, takeRows, withFailure, doneBy, tickOf, lostOf, takeOf, storeAfterTake, failureOf, dueOf, ceilingOf as ceilingAt, commandOf, freeOf}
-use Rattle.unit.specs.Step.{State, stepDone, step, replies, after}
+use Rattle.unit.specs.Calls.{ticked, lost, withFailure, doneBy, tickOf, lostOf, failureOf, dueOf, ceilingOf as ceilingAt, commandOf, freeOf}
+use Rattle.taking.specs.Taken.{taken, takeRows, takeOf, storeAfterTake}
+use Rattle.taking.specs.Step.{State, stepDone, step, replies, after}
 use Rattle.unit.specs.declared.Unit.{Unit}
 use Rattle.unit.specs.declared.Done.{Done}
 use Rattle.c_structs.specs.Held.{opened, shutOf, handed}

@@ -31,8 +31,9 @@ use Rattle.about_store.specs.Untouched.{Keeps}
 use Rattle.about_store.proofs.Given.{given-cases, given-keeps, released-in}
 use Rattle.about_store.proofs.Put.{live}
 use Rattle.unit.specs.Rows.{firstOf}
-use Rattle.unit.specs.Calls.{doneBy, setClock, withCommand, second, seconds, tickFrom, ticked, tickOf, lost, lostOf, takeRows, takeOf, taken, withFile, withFailure, failureOf}
-use Rattle.unit.specs.Step.{State, step, after}
+use Rattle.unit.specs.Calls.{doneBy, setClock, withCommand, second, seconds, tickFrom, ticked, tickOf, lost, lostOf, withFailure, failureOf}
+use Rattle.taking.specs.Taken.{takeRows, takeOf, taken, withFile}
+use Rattle.taking.specs.Step.{State, step, after}
 use Rattle.unit.specs.declared.Unit.{Unit}
 use Rattle.unit.specs.declared.Clock.{Clock}
 use Rattle.unit.specs.declared.Clock.the-variants.{Unset, At}

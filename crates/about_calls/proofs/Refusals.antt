@@ -30,8 +30,9 @@ use Rattle.polling.specs.Requests.{requestsOf}
 use Rattle.polling.specs.Due.{asksFixed, dueFor}
 use Rattle.unit.specs.Values.{isSound}
 use Rattle.unit.specs.Rows.{Row, firstOf, lengthRow, unitRow, soundRow, clockRow, tickRow, slotRow, statusRow}
-use Rattle.unit.specs.Calls.{doneBy, ticked, tickOf, lost, lostOf, takeRows, takeOf, taken, outcomeRow, fullRow, storeBy, storeWith, storeAfterTake, withFailure, failureOf, dueBy, dueOf, clockTime, ceilingBy, ceilingAnswer, ceilingOf as ceilingAt, commandBy, commandOf, freeBy, freeOf}
-use Rattle.unit.specs.Step.{State, stepDone, step}
+use Rattle.unit.specs.Calls.{doneBy, ticked, tickOf, lost, lostOf, withFailure, failureOf, dueBy, dueOf, clockTime, ceilingBy, ceilingAnswer, ceilingOf as ceilingAt, commandBy, commandOf, freeBy, freeOf}
+use Rattle.taking.specs.Taken.{takeRows, takeOf, taken, outcomeRow, fullRow, storeBy, storeWith, storeAfterTake}
+use Rattle.taking.specs.Step.{State, stepDone, step}
 use Rattle.unit.specs.declared.Unit.{Unit}
 use Rattle.about_calls.specs.Acceptance.{together}
 use Rattle.about_calls.specs.Full.{crowds, fullBreaks}

@@ -12,8 +12,9 @@ use Rattle.about_store.specs.Run.{putRecords}
 use Rattle.about_store.specs.Untouched.{Untouched}
 use Rattle.about_store.proofs.Laws.{rate-agrees, records-untouched}
 use Rattle.unit.specs.Rows.{firstOf}
-use Rattle.unit.specs.Calls.{doneBy, takeRows, takeOf, taken, withFile, storeBy, storeWith, storeAfterTake}
-use Rattle.unit.specs.Step.{step, after}
+use Rattle.unit.specs.Calls.{doneBy}
+use Rattle.taking.specs.Taken.{takeRows, takeOf, taken, withFile, storeBy, storeWith, storeAfterTake}
+use Rattle.taking.specs.Step.{step, after}
 use Rattle.unit.specs.declared.Unit.{Unit}
 use Rattle.about_calls.specs.Theorem.{fresh, told}
 use Rattle.about_calls.specs.Sentences.{LatestRate, TakeUntouched, OthersUntouched}

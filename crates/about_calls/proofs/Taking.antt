@@ -27,8 +27,8 @@ use Rattle.about_store.specs.Agrees.{Agrees}
 use Rattle.about_store.specs.Run.{putRecords, runStart, runLength}
 use Rattle.about_store.proofs.Laws.{put-agrees, taken-good, room-agrees}
 use Rattle.unit.specs.Rows.{isUnset}
-use Rattle.unit.specs.Calls.{withFile, storeWith, fullRow}
-use Rattle.unit.specs.Step.{State, step}
+use Rattle.taking.specs.Taken.{withFile, storeWith, fullRow}
+use Rattle.taking.specs.Step.{State, step}
 use Rattle.unit.specs.declared.Unit.{Unit}
 use Rattle.unit.specs.declared.Clock.{Clock}
 use Rattle.unit.specs.declared.Clock.the-variants.{Unset, At}

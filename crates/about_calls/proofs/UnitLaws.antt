@@ -17,8 +17,9 @@ use Rattle.pool.specs.Held.{heldOf}
 use Rattle.schedule.specs.Stored.{storedRate}
 use Rattle.unit.specs.Values.{isSound}
 use Rattle.unit.specs.Rows.{firstOf, isUnset}
-use Rattle.unit.specs.Calls.{ticked, tickOf, takeOf, storeAfterTake, fullRow, taken, storeWith, withFile, ceilingOf as ceilingAt, ceilingAnswer}
-use Rattle.unit.specs.Step.{State, Step, step}
+use Rattle.unit.specs.Calls.{ticked, tickOf, ceilingOf as ceilingAt, ceilingAnswer}
+use Rattle.taking.specs.Taken.{takeOf, storeAfterTake, fullRow, taken, storeWith, withFile}
+use Rattle.taking.specs.Step.{State, Step, step}
 
 -- a refusal: the cause's number, and the state as it was
 abbrev pub refusal : Cause → State → Step

@@ -7,7 +7,7 @@ use Rattle.rules.specs.Machine.{Call, freshMachine, replies as machineReplies, 
 use Rattle.rules.specs.Plant.{Settings}
 use Rattle.plant.specs.Plant.{validPlant, plantOf}
 use Rattle.plant.specs.declared.Plant.{Plant}
-use Rattle.unit.specs.Step.{after}
+use Rattle.taking.specs.Step.{after}
 use Rattle.unit.specs.Values.{isSound}
 use Rattle.c_structs.specs.Held.{opened}
 use Rattle.c_structs.specs.declared.structs.HeldUnit.{HeldUnit}

@@ -15,7 +15,7 @@ use Rattle.about_files.specs.ReadRefusals.{LowestBy}
 use Rattle.plant.specs.Plant.{plantOf, validPlant}
 use Rattle.unit.specs.Values.{valuesOf, isSound, freshUnit, installedUnit}
 use Rattle.unit.specs.Request.{requestOf}
-use Rattle.unit.specs.Step.{replies, after}
+use Rattle.taking.specs.Step.{replies, after}
 use Rattle.about_calls.specs.Theorem.{installedState, unsoundReply}
 
 -- whether a row of 01's table applies to an ID, a MAC address and settings: 'ID length, byte or check digit', 'setting, MAC length or MAC byte out of range'

@@ -8,8 +8,9 @@ use lib.Dec.{eqb}
 use Rattle.rules.specs.Causes.{Reply, accepted, refused, ceiling, update, fixed, nothing, parts, blocks}
 use Rattle.rules.specs.Plant.{Settings}
 use Rattle.rules.specs.Machine.{Call, tick, clockLost, fileTaken, failure, due, ceilingOf, command, freeBlocks}
-use Rattle.unit.specs.Calls.{tickOf, lostOf, takeOf, storeAfterTake, failureOf, dueOf, ceilingOf as ceilingAt, commandOf, freeOf}
-use Rattle.unit.specs.Step.{State, replies, after}
+use Rattle.unit.specs.Calls.{tickOf, lostOf, failureOf, dueOf, ceilingOf as ceilingAt, commandOf, freeOf}
+use Rattle.taking.specs.Taken.{takeOf, storeAfterTake}
+use Rattle.taking.specs.Step.{State, replies, after}
 use Rattle.unit.specs.Values.{installedUnit}
 use Rattle.c_structs.specs.Held.{opened, shutOf, handed, newly}
 use Rattle.c_structs.specs.Answers.{dueNumbers, ceilingNumbers, commandNumber, blocksNumber}

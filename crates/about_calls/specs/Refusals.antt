@@ -18,8 +18,8 @@ use Rattle.about_files.specs.ReadRefusals.{takeApplies, LowestBy}
 use Rattle.pool.specs.Held.{heldOf}
 use Rattle.unit.specs.Values.{isSound}
 use Rattle.unit.specs.Rows.{isUnset}
-use Rattle.unit.specs.Calls.{takeOf}
-use Rattle.unit.specs.Step.{State, step}
+use Rattle.taking.specs.Taken.{takeOf}
+use Rattle.taking.specs.Step.{State, step}
 use Rattle.unit.specs.declared.Unit.{Unit}
 use Rattle.about_calls.specs.Theorem.{lent}
 use Rattle.about_calls.specs.Full.{fullBreaks}

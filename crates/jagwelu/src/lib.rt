@@ -10,7 +10,8 @@ ghost use Rattle.rules.specs.Reading.{readingOf};
 ghost use Rattle.rules.specs.Writer.{writeBody, writtenOf, bufferAfter};
 ghost use Rattle.rules.specs.declared.Kind.{Kind as KindOf};
 ghost use Rattle.plant.specs.Plant.{settings};
-ghost use Rattle.unit.specs.Calls.{tickOf, lostOf, takeOf, storeAfterTake, failureOf, dueOf, ceilingOf, commandOf, freeOf};
+ghost use Rattle.unit.specs.Calls.{tickOf, lostOf, failureOf, dueOf, ceilingOf, commandOf, freeOf};
+ghost use Rattle.taking.specs.Taken.{takeOf, storeAfterTake};
 ghost use Rattle.unit.specs.Request.{requestOf};
 ghost use Rattle.unit.specs.Values.{installedUnit};
 ghost use Rattle.writer.specs.Fields.{fieldsOf};
@@ -76,7 +77,7 @@ pub extern "C" fn jag_take_file(
     ensures kept { λ _. ⌜ now (store .exit) ≡ storeAfterTake (opened unit) (now (store .entry)) (now (name .entry)) (now (body .entry)) ⌝ }
 {
     let opened = c_structs::open(unit);
-    let done = opened.take_file(name, body, store);
+    let done = taking::take_file(opened, name, body, store);
     c_structs::hand(unit, done)
 }
 

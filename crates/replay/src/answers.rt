@@ -6,7 +6,7 @@ use rules::Command;
 use rules::Due;
 use rules::FreeBlocks;
 use rules::Written;
-use unit::Reply;
+use taking::Reply;
 use unit::Unit;
 
 // '84 bytes' (01, Beside the unit).

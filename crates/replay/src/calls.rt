@@ -7,7 +7,7 @@ use crate::stores::most_of;
 use script_fields::Field;
 use rules::Answer;
 use script::Ask;
-use unit::Call;
+use taking::Call;
 use unit::Unit;
 
 // A call of the plain machine, through the unit's step.
@@ -21,7 +21,7 @@ fn step(
 ) -> Progress {
     let unit = was.unit;
     let lent = most_of(was.lent, store);
-    let stepped = unit.step(call, name, body, &mut store[..lent]);
+    let stepped = taking::step(unit, call, name, body, &mut store[..lent]);
     let next = stepped.unit;
     let reply = stepped.reply;
     let progress = was.with_unit(next);

@@ -6,8 +6,4 @@ pub mod ReleaseLaws
 pub mod Seconds
 pub mod TickLaws
 pub mod Ticks
-pub mod RecordLaws
-pub mod ReadLaws
-pub mod TakeLaws
-pub mod StepLaws
 pub mod RequestLaws

@@ -7,10 +7,7 @@ ghost use Rattle.unit.specs.Calls.{refusal, lostOf, failureOf, dueOf, co
 ghost use Rattle.unit.specs.Asked.{dueAsked, commandAsked, freeAsked};
 
 mod ceiling;
-mod put;
 mod requesting;
-mod step;
-mod take;
 mod tick;
 
 use plant::Plant;
@@ -24,9 +21,6 @@ use rules::Due;
 use rules::FreeBlocks;
 use rules::Kind;
 use rules::Written;
-pub use step::Call;
-pub use step::Reply;
-pub use step::Stepped;
 
 // The clock: unset, or at a second.
 pub enum Clock {
@@ -160,7 +154,7 @@ impl Unit {
     }
 
     // The unit with a cause, as it was.
-    fn refuse(self, cause: Cause) -> Done
+    pub fn refuse(self, cause: Cause) -> Done
         ensures { λ r. ⌜ r ≡ refusal self cause ⌝ }
     {
         Done {

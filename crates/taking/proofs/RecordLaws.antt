@@ -15,7 +15,7 @@ use Rattle.body.specs.Walk.{Whole, shaped, recordsFrom}
 use Rattle.body.proofs.Parts.{part-to}
 use Rattle.body.proofs.Walk.{records-end, records-step, shaped-rest, whole-first, within}
 use Rattle.body.proofs.Starts.{rates-full}
-use Rattle.unit.specs.Taking.{Following}
+use Rattle.taking.specs.Taking.{Following}
 
 pub size-is : (f : Format) (t : List ℕ) (n d : ℕ) → n ≡ ratesOf t → d ≡ tailDigits f → 53 + n + d ≡ sizeOf f t
 unfolding sizeOf

@@ -3,18 +3,19 @@ use Prim.Native.Nat.{ℕ}
 use mathlib.Core.Path.{_≡_, refl}
 use mathlib.Core.List.{List}
 use Rattle.rules.specs.declared.Kind.{Kind}
-use Rattle.unit.specs.Calls.{tickOf, lostOf, takeOf, storeAfterTake, failureOf}
+use Rattle.unit.specs.Calls.{tickOf, lostOf, failureOf}
+use Rattle.taking.specs.Taken.{takeOf, storeAfterTake}
 use Rattle.unit.specs.Asked.{dueAsked, ceilingAsked, commandAsked, freeAsked}
-use Rattle.unit.specs.Step.{step}
-use Rattle.unit.specs.Stepping.{answered, dueReplied, ceilingReplied, commandReplied, freeReplied, steppedOf, storeOf, StepsAgree}
+use Rattle.taking.specs.Step.{step}
+use Rattle.taking.specs.Stepping.{answered, dueReplied, ceilingReplied, commandReplied, freeReplied, steppedOf, storeOf, StepsAgree}
 use Rattle.unit.specs.declared.Unit.{Unit}
 use Rattle.unit.specs.declared.Done.{Done}
 use Rattle.unit.specs.declared.DueAsked.{DueAsked}
 use Rattle.unit.specs.declared.CeilingAsked.{CeilingAsked}
 use Rattle.unit.specs.declared.CommandAsked.{CommandAsked}
 use Rattle.unit.specs.declared.FreeAsked.{FreeAsked}
-use Rattle.unit.specs.declared.step.Call.{Call}
-use Rattle.unit.specs.declared.step.Stepped.{Stepped}
+use Rattle.taking.specs.declared.calls.Call.{Call}
+use Rattle.taking.specs.declared.calls.Stepped.{Stepped}
 
 module _ (u : Unit) (store name body : List ℕ) where
   -- what the call returns, and the store after it

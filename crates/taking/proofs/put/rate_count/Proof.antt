@@ -3,8 +3,8 @@ use native.Mathlib.Omega.{arith}
 use denote.Ref.{now}
 use Rattle.body.proofs.Parts.{rates-is}
 use borrow.Author.Needs.{needs}
-use Rattle.unit.proofs.put.rate_count.Statement.{statement}
-use Rattle.unit.proofs.put.rate_count.Tie as tie
+use Rattle.taking.proofs.put.rate_count.Statement.{statement}
+use Rattle.taking.proofs.put.rate_count.Tie as tie
 
 pair-requires : tie.Need-pair-requires
 pair-requires c κs = search needs

@@ -2,8 +2,8 @@
 use mathlib.Core.Path.{refl, ap}
 use Rattle.polling.specs.Requests.{requestsOf}
 use borrow.Author.Needs.{needs}
-use Rattle.unit.proofs.take.take_requests.Statement.{statement}
-use Rattle.unit.proofs.take.take_requests.Tie as tie
+use Rattle.taking.proofs.take.take_requests.Statement.{statement}
+use Rattle.taking.proofs.take.take_requests.Tie as tie
 
 enum-told : tie.Need-enum-told
 enum-told c = search needs

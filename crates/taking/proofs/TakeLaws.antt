@@ -22,15 +22,16 @@ use Rattle.schedule.specs.Rates.{storedOf}
 use Rattle.about_store.specs.Run.{runStart, runLength, putRecords}
 use Rattle.polling.specs.Requests.{requestsOf, requestsFrom}
 use Rattle.polling.specs.declared.Requests.{Requests}
 use Rattle.unit.specs.Values.{isSound}
 use Rattle.unit.specs.Rows.{firstOf, isUnset}
-use Rattle.unit.specs.Calls.{refusal, fullRow, withFile, takeOf, storeAfterTake}
-use Rattle.unit.specs.Taking.{Following, takeSummary, filed}
+use Rattle.unit.specs.Calls.{refusal}
+use Rattle.taking.specs.Taken.{fullRow, withFile, takeOf, storeAfterTake}
+use Rattle.taking.specs.Taking.{Following, takeSummary, filed}
 use Rattle.unit.specs.declared.Unit.{Unit}
 use Rattle.unit.specs.declared.Done.{Done}
 use Rattle.unit.specs.declared.Clock.the-variants.{Unset, At}
 use Rattle.unit.proofs.LentLaws.{lent-row}
-use Rattle.unit.proofs.ReadLaws.{FileRead, outcome-refused, outcome-read, body-room, start-is, rates-are, records-are, following, requests-are}
+use Rattle.taking.proofs.ReadLaws.{FileRead, outcome-refused, outcome-read, body-room, start-is, rates-are, records-are, following, requests-are}
 
 module _ (u : Unit) (store name body : List ℕ) where
   -- the call's answer, and the store after it

@@ -31,7 +31,7 @@ use Rattle.body.proofs.Parts.{both}
 use Rattle.body.proofs.Walk.{parse-is}
 use Rattle.about_store.specs.Run.{RunFrom, runStart, runLength}
 use Rattle.about_store.proofs.Laws.{taken-good}
-use Rattle.unit.specs.Taking.{Following, takeSummary}
+use Rattle.taking.specs.Taking.{Following, takeSummary}
 
 -- ---- the outcome, by what was read
 

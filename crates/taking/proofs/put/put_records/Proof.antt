@@ -10,10 +10,10 @@ use Rattle.about_store.specs.Run.{putRecords}
 use Rattle.rules.specs.Body.{sizeOf}
 use Rattle.body.specs.Walk.{Whole, recordsFrom}
 use Rattle.body.proofs.Walk.{within}
-use Rattle.unit.specs.Taking.{Following}
-use Rattle.unit.proofs.RecordLaws.{size-is, whole-here, in-time, next-following, put-next, put-end}
-use Rattle.unit.proofs.put.put_records.Statement.{statement}
-use Rattle.unit.proofs.put.put_records.Tie as tie
+use Rattle.taking.specs.Taking.{Following}
+use Rattle.taking.proofs.RecordLaws.{size-is, whole-here, in-time, next-following, put-next, put-end}
+use Rattle.taking.proofs.put.put_records.Statement.{statement}
+use Rattle.taking.proofs.put.put_records.Tie as tie
 
 abbrev Inv-loop : tie.InvT-loop
 Inv-loop format count floor start s store₀ pool₀ left₀ slot₀ t₀ store pool left slot t =

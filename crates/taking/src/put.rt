@@ -7,7 +7,7 @@ ghost use Rattle.rules.specs.Body.{tailDigits, ratesOf};
 ghost use Rattle.body.specs.Walk.{recordsFrom};
 ghost use Rattle.schedule.specs.Rates.{storedOf};
 ghost use Rattle.about_store.specs.Run.{putRecords};
-ghost use Rattle.unit.specs.Taking.{Following};
+ghost use Rattle.taking.specs.Taking.{Following};
 use pool::Pool;
 use rules::Format;
 

@@ -3,9 +3,10 @@ use mathlib.Core.List.{List, [], _∷_}
 use Prim.Native.Nat.{ℕ}
 use Rattle.rules.specs.Causes.{Reply, ofAnswer, ofDue, ofCeiling, ofCommand, ofFreeBlocks}
 use Rattle.rules.specs.Machine.{Call, tick, clockLost, fileTaken, failure, due, ceilingOf, command, freeBlocks}
-use Rattle.unit.specs.Calls.{tickOf, lostOf, takeOf, storeAfterTake, failureOf, dueOf, ceilingOf as ceilingAt, commandOf, freeOf}
+use Rattle.unit.specs.Calls.{tickOf, lostOf, failureOf, dueOf, ceilingOf as ceilingAt, commandOf, freeOf}
+use Rattle.taking.specs.Taken.{takeOf, storeAfterTake}
 use Rattle.unit.specs.declared.Unit.{Unit}
 use Rattle.unit.specs.declared.Done.{Done}
 
 -- a unit and the store that is lent to it
 pub record State : Type 0 where

@@ -1,4 +1,4 @@
--- `unit::Unit::take_file` meets its contract. Assumes nothing.
+-- `take::take_file` meets its contract. Assumes nothing.
 use mathlib.Core.Path.{_≡_, sym, ap, ap₂, _∙_}
 use mathlib.Core.Bool.{Bool, true, _&&_}
 use lib.ListN.{length}
@@ -9,11 +9,11 @@ use Rattle.rules.specs.Store.{storeLength}
 use Rattle.rules.specs.Reading.{readingOf}
 use Rattle.rules.specs.declared.Reading.the-variants.{Read}
 use Rattle.schedule.specs.Stored.{storeHolds}
 use Rattle.unit.specs.Values.{isSound}
-use Rattle.unit.proofs.TakeLaws.{take-length, take-unsound, take-unset, take-refused, take-full, take-done, read-room, read-following}
+use Rattle.taking.proofs.TakeLaws.{take-length, take-unsound, take-unset, take-refused, take-full, take-done, read-room, read-following}
 use borrow.Author.Needs.{needs}
-use Rattle.unit.proofs.Unit.take_file.Statement.{statement}
-use Rattle.unit.proofs.Unit.take_file.Tie as tie
+use Rattle.taking.proofs.take.take_file.Statement.{statement}
+use Rattle.taking.proofs.take.take_file.Tie as tie
 
 refuse-requires : tie.Need-refuse-requires
 refuse-requires c κs = search needs
@@ -34,13 +34,13 @@ abbrev start : tie.After-store-holds → tie.Start
 start c = c .before .before .before .before .before .before .before .before .before .before
 
 -- what the code tests
-tested : (c : tie.After-store-holds) → (c .before .before .sound .result && c .store-holds .result) ≡ (isSound (start c .args .self) && storeHolds (start c .args .self .pool) (now (start c .args .store)))
+tested : (c : tie.After-store-holds) → (c .before .before .sound .result && c .store-holds .result) ≡ (isSound (start c .args .unit) && storeHolds (start c .args .unit .pool) (now (start c .args .store)))
 tested c = ap₂ _&&_ (c .before .before .sound .ensures) (c .store-holds .ensures)
 
 long : (c : tie.After-store-holds) → length (now (start c .args .store)) ≡ storeLength
 long c = c .before .before .before .before .before .before .if1 .left
 
-good : (c : tie.Else2) → (isSound (start (c .before) .args .self) && storeHolds (start (c .before) .args .self .pool) (now (start (c .before) .args .store))) ≡ true
+good : (c : tie.Else2) → (isSound (start (c .before) .args .unit) && storeHolds (start (c .before) .args .unit .pool) (now (start (c .before) .args .store))) ≡ true
 good c = sym (tested (c .before)) ∙ not-false _ (c .if2 .left)
 
 refuse-requires-2 : tie.Need-refuse-requires-2
@@ -95,7 +95,7 @@ at-read c = c .before .before
 abbrev entry : tie.After-read-to-take → tie.Start
 entry c = start (c .before .before .before .before .before .before)
 
-got : (c : tie.After-summary) → readingOf (takeFile (entry (at-read c) .args .self .plant .id) (now (entry (at-read c) .args .name)) (now (entry (at-read c) .args .body))) ≡ Read (c .summary .given .0 .0)
+got : (c : tie.After-summary) → readingOf (takeFile (entry (at-read c) .args .unit .plant .id) (now (entry (at-read c) .args .name)) (now (entry (at-read c) .args .body))) ≡ Read (c .summary .given .0 .0)
 got c = sym (at-read c .read-to-take .ensures) ∙ c .summary .given .1
 
 missing-requires : tie.Need-missing-requires

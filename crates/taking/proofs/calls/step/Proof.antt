@@ -1,16 +1,16 @@
--- `unit::Unit::step` meets its contract, call by call. Assumes nothing.
+-- `calls::step` meets its contract, call by call. Assumes nothing.
 use Prim.Native.Nat.{ℕ}
 use mathlib.Core.List.{List}
 use denote.Ref.{now}
 use Rattle.unit.specs.declared.Unit.{Unit}
-use Rattle.unit.proofs.StepLaws.{tick-step, lost-step, file-step, failure-step, due-step, ceiling-step, command-step, free-step}
+use Rattle.taking.proofs.StepLaws.{tick-step, lost-step, file-step, failure-step, due-step, ceiling-step, command-step, free-step}
 use borrow.Author.Needs.{needs}
-use Rattle.unit.proofs.Unit.step.Statement.{statement}
-use Rattle.unit.proofs.Unit.step.Tie as tie
+use Rattle.taking.proofs.calls.step.Statement.{statement}
+use Rattle.taking.proofs.calls.step.Tie as tie
 
 -- what the call was given
 abbrev unit : tie.After-slice-known → Unit
-unit k = k .before .before .before .args .self
+unit k = k .before .before .before .args .unit
 
 abbrev name : tie.After-slice-known → List ℕ
 name k = now (k .before .before .before .args .name)

@@ -5,8 +5,8 @@ use native.Mathlib.Omega.{arith}
 use denote.Ref.{now}
 use Rattle.body.proofs.Parts.{pair-is}
 use borrow.Author.Needs.{needs}
-use Rattle.unit.proofs.put.pair.Statement.{statement}
-use Rattle.unit.proofs.put.pair.Tie as tie
+use Rattle.taking.proofs.put.pair.Statement.{statement}
+use Rattle.taking.proofs.put.pair.Tie as tie
 
 shared-slice-read-result : tie.Need-shared-slice-read-result
 shared-slice-read-result c = search needs

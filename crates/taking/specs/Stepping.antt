@@ -4,18 +4,19 @@ use mathlib.Core.Path.{_≡_}
 use mathlib.Core.List.{List}
 use Rattle.rules.specs.Causes.{Reply as MachineReply, ofAnswer, ofDue, ofCeiling, ofCommand, ofFreeBlocks}
 use Rattle.rules.specs.Machine.{Call as MachineCall, tick, clockLost, fileTaken, failure, due, ceilingOf, command, freeBlocks}
-use Rattle.unit.specs.Calls.{tickOf, lostOf, takeOf, storeAfterTake, failureOf}
+use Rattle.unit.specs.Calls.{tickOf, lostOf, failureOf}
+use Rattle.taking.specs.Taken.{takeOf, storeAfterTake}
 use Rattle.unit.specs.Asked.{dueAsked, ceilingAsked, commandAsked, freeAsked}
-use Rattle.unit.specs.Step.{Step, step}
+use Rattle.taking.specs.Step.{Step, step}
 use Rattle.unit.specs.declared.Unit.{Unit}
 use Rattle.unit.specs.declared.Done.{Done as UnitDone}
 use Rattle.unit.specs.declared.DueAsked.{DueAsked}
 use Rattle.unit.specs.declared.CeilingAsked.{CeilingAsked}
 use Rattle.unit.specs.declared.CommandAsked.{CommandAsked}
 use Rattle.unit.specs.declared.FreeAsked.{FreeAsked}
-use Rattle.unit.specs.declared.step.Call.{Call}
-use Rattle.unit.specs.declared.step.Reply.{Reply}
-use Rattle.unit.specs.declared.step.Stepped.{Stepped}
+use Rattle.taking.specs.declared.calls.Call.{Call}
+use Rattle.taking.specs.declared.calls.Reply.{Reply}
+use Rattle.taking.specs.declared.calls.Stepped.{Stepped}
 
 -- ---- what the code returns and leaves
 

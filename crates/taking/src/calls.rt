@@ -1,18 +1,18 @@
 // One call of the unit given as a value, and its reply: what a list of calls is made of.
 ghost use mathlib.Core.Path.{_≡_};
-ghost use Rattle.unit.specs.Stepping.{answered, dueReplied, ceilingReplied, commandReplied, freeReplied, steppedOf, storeOf};
-use crate::CeilingAsked;
-use crate::CommandAsked;
-use crate::Done;
-use crate::DueAsked;
-use crate::FreeAsked;
-use crate::Unit;
+ghost use Rattle.taking.specs.Stepping.{answered, dueReplied, ceilingReplied, commandReplied, freeReplied, steppedOf, storeOf};
 use rules::Answer;
 use rules::Ceiling;
 use rules::Command;
 use rules::Due;
 use rules::FreeBlocks;
 use rules::Kind;
+use unit::CeilingAsked;
+use unit::CommandAsked;
+use unit::Done;
+use unit::DueAsked;
+use unit::FreeAsked;
+use unit::Unit;
 
 // A call, with the values that it is given besides unit and store; name and body of a file are lent.
 pub enum Call {
@@ -98,21 +98,19 @@ fn free_replied(asked: FreeAsked) -> Stepped
     }
 }
 
-impl Unit {
-    // A call, whichever it is; only a file looks at name and body.
-    pub fn step(self, call: Call, name: &[u8], body: &[u8], store: &mut [u8]) -> Stepped
-        ensures answer { λ r. ⌜ r ≡ steppedOf self call (now (name .entry)) (now (body .entry)) (now (store .entry)) ⌝ }
-        ensures kept { λ _. ⌜ now (store .exit) ≡ storeOf self call (now (name .entry)) (now (body .entry)) (now (store .entry)) ⌝ }
-    {
-        match call {
-            Call::Tick(t) => answered(self.tick(t, store)),
-            Call::ClockLost => answered(self.clock_lost()),
-            Call::File => answered(self.take_file(name, body, store)),
-            Call::Failure(kind, status) => answered(self.failure(kind, status)),
-            Call::Due => due_replied(self.due()),
-            Call::Ceiling(slot) => ceiling_replied(self.ceiling(slot, store)),
-            Call::Command => command_replied(self.command()),
-            Call::FreeBlocks => free_replied(self.free_blocks()),
-        }
+// A call, whichever it is; only a file looks at name and body.
+pub fn step(unit: Unit, call: Call, name: &[u8], body: &[u8], store: &mut [u8]) -> Stepped
+    ensures answer { λ r. ⌜ r ≡ steppedOf unit call (now (name .entry)) (now (body .entry)) (now (store .entry)) ⌝ }
+    ensures kept { λ _. ⌜ now (store .exit) ≡ storeOf unit call (now (name .entry)) (now (body .entry)) (now (store .entry)) ⌝ }
+{
+    match call {
+        Call::Tick(t) => answered(unit.tick(t, store)),
+        Call::ClockLost => answered(unit.clock_lost()),
+        Call::File => answered(crate::take::take_file(unit, name, body, store)),
+        Call::Failure(kind, status) => answered(unit.failure(kind, status)),
+        Call::Due => due_replied(unit.due()),
+        Call::Ceiling(slot) => ceiling_replied(unit.ceiling(slot, store)),
+        Call::Command => command_replied(unit.command()),
+        Call::FreeBlocks => free_replied(unit.free_blocks()),
     }
 }

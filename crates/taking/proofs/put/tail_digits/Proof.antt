@@ -2,8 +2,8 @@
 use mathlib.Core.Path.{refl}
 use lib.Dec.{lit≤}
 use borrow.Author.Needs.{needs}
-use Rattle.unit.proofs.put.tail_digits.Statement.{statement}
-use Rattle.unit.proofs.put.tail_digits.Tie as tie
+use Rattle.taking.proofs.put.tail_digits.Statement.{statement}
+use Rattle.taking.proofs.put.tail_digits.Tie as tie
 
 enum-told : tie.Need-enum-told
 enum-told c = search needs

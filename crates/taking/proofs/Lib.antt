@@ -1,0 +1,4 @@
+pub mod RecordLaws
+pub mod ReadLaws
+pub mod TakeLaws
+pub mod StepLaws

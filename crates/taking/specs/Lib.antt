@@ -1,0 +1,4 @@
+pub mod Taken
+pub mod Taking
+pub mod Step
+pub mod Stepping

@@ -1,0 +1,91 @@
+// A file taken: read, its months counted, its rates put into the store, its flag or segment noted.
+ghost use mathlib.Core.Path.{_≡_};
+ghost use Rattle.polling.specs.Requests.{requestsOf};
+ghost use Rattle.taking.specs.Taken.{takeOf, storeAfterTake};
+ghost use Rattle.taking.specs.Taking.{takeSummary, filed};
+use polling::Requests;
+use pool::Pool;
+use rules::Answer;
+use rules::Cause;
+use rules::Format;
+use rules::Reading;
+use rules::Summary;
+use unit::Clock;
+use unit::Done;
+use unit::Unit;
+
+// 'A body is a 6-digit record count, then the records'.
+const RECORDS: usize = 6;
+
+// What is due after the file, by its format.
+fn take_requests(old: Requests, summary: Summary) -> Requests
+    ensures { λ r. ⌜ requestsOf r ≡ takeSummary (summary .format) summary (requestsOf old) ⌝ }
+{
+    let format = summary.format;
+    match format {
+        Format::F201 => old.take_year((summary.segment % 10) as u8),
+        Format::F202 => old,
+        Format::F203 => old.take_update(summary.flag, summary.next_access),
+        Format::F301 => old,
+    }
+}
+
+// The unit with the pool and the requests that a file left.
+fn filed(unit: Unit, pool: Pool, requests: Requests) -> Done
+    ensures { λ r. ⌜ r ≡ filed unit pool requests ⌝ }
+{
+    let plant = unit.plant;
+    let clock = unit.clock;
+    Done {
+        unit: Unit {
+            plant,
+            pool,
+            requests,
+            clock,
+            floor: unit.floor,
+            command: unit.command,
+        },
+        answer: Answer::Accepted,
+    }
+}
+
+// A file, by its name and body. All is decided before the first byte of the store is written.
+pub fn take_file(unit: Unit, name: &[u8], body: &[u8], store: &mut [u8]) -> Done
+    ensures answer { λ r. ⌜ r ≡ takeOf unit (now (store .entry)) (now (name .entry)) (now (body .entry)) ⌝ }
+    ensures kept { λ _. ⌜ now (store .exit) ≡ storeAfterTake unit (now (store .entry)) (now (name .entry)) (now (body .entry)) ⌝ }
+{
+    if store.len() != Unit::STORE_LENGTH {
+        return unit.refuse(Cause::StoreLength);
+    }
+    let plant = unit.plant;
+    let held = unit.pool;
+    let old = unit.requests;
+    if !(unit.sound() & schedule::store_holds(held, store)) {
+        return unit.refuse(Cause::Unsound);
+    }
+    let clock = unit.clock;
+    let Clock::At(_) = clock else {
+        return unit.refuse(Cause::ClockUnset);
+    };
+    let id = plant.id;
+    match transfer::read_to_take(&id, name, body) {
+        Reading::Refused(cause) => unit.refuse(cause),
+        Reading::Read(summary) => {
+            let needed = schedule::missing(held, unit.floor, summary.start, summary.rates);
+            if held.free_count() < needed {
+                return unit.refuse(Cause::Full);
+            }
+            let format = summary.format;
+            let pool = crate::put::put_records(
+                format,
+                summary.records,
+                held,
+                unit.floor,
+                summary.start,
+                &body[RECORDS..],
+                store,
+            );
+            filed(unit, pool, take_requests(old, summary))
+        }
+    }
+}
