@@ -10,7 +10,7 @@ use Rattle.rules.specs.Plant.{lastDigit}
 use Rattle.rules.specs.Calendar.{firstSlot, monthOfSlot, slotCount}
 use Rattle.rules.specs.Store.{soundClock}
 use Rattle.rules.specs.Causes.{Reply, accepted, refused, numberOf, ofDue, ofCeiling}
-use Rattle.rules.specs.Machine.{clockLost, failure, due, ceilingOf, command, freeBlocks, countBelow, isStatus, failed, dueOf}
+use Rattle.rules.specs.Machine.{clockLost, failure, due, ceilingOf, command, freeBlocks, countBelow, isStatus, failed}
 use Rattle.rules.specs.declared.Cause.{Cause}
 use Rattle.rules.specs.declared.Due.{Due}
 use Rattle.rules.specs.declared.Kind.{Kind}
@@ -19,7 +19,9 @@ use Rattle.polling.specs.Requests.{requestsOf}
 use Rattle.schedule.specs.Stored.{Stored}
 use Rattle.about_store.proofs.View.{View, Shows}
 use Rattle.about_store.proofs.Shown.{Plain, rate-view, free-view}
-use Rattle.unit.specs.Values.{clockOf, isSound, requestsFrom}
+use Rattle.unit.specs.Values.{clockOf, isSound}
+use Rattle.polling.specs.Requests.{requestsFrom}
+use Rattle.polling.specs.Due.{dueFor}
 use Rattle.unit.specs.Rows.{isUnset}
 use Rattle.unit.specs.Calls.{lost, ceilingAnswer}
 use Rattle.taking.specs.Step.{stepDone, step}
@@ -52,10 +54,10 @@ module _ (r : Beside) (v : View) (good : Good r) (plain : Plain v) where
   due-outcome = go (r .clock) refl
     where
       go : (c : Clock) → r .clock ≡ c → Outcome due r v
-      go Unset e = same-state due r v good plain (ofDue (Due.Refused Cause.ClockUnset)) (λ st h. ap (λ (x : Reply). (x, made r v st)) (due-unset (unitOf r v st) (sound st h) e))
+      go Unset e = same-state due r v good plain (ofDue (Due.Refused Cause.ClockUnset)) (λ st h. ap (λ (x : Due). (ofDue x, made r v st)) (due-unset (unitOf r v st) (sound st h) e))
       go (At t) e =
-          same-state due r v good plain (dueOf (lastDigit (r .plant .id)) t (requestsOf (r .requests)))
-          (λ st h. ap (λ (x : Reply). (x, made r v st)) (due-done (unitOf r v st) (sound st h) t e (lastDigit (r .plant .id)) refl))
+          same-state due r v good plain (ofDue (dueFor (lastDigit (r .plant .id)) t (requestsOf (r .requests))))
+          (λ st h. ap (λ (x : Due). (ofDue x, made r v st)) (due-done (unitOf r v st) (sound st h) t e (lastDigit (r .plant .id)) refl))
 
   -- ---- ceiling
 

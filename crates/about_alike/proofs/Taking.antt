@@ -21,7 +21,7 @@ use Rattle.about_store.proofs.View.{View, Shows, count-view}
 use Rattle.about_store.proofs.Shown.{Plain, free-view}
 use Rattle.about_store.proofs.Rooms.{records-plain, lacking, missing-view, held-more}
 use Rattle.about_store.proofs.Records.{recordsView, records-floor, records-shows}
-use Rattle.unit.specs.Values.{requestsFrom}
+use Rattle.polling.specs.Requests.{requestsFrom}
 use Rattle.unit.specs.Rows.{isUnset}
 use Rattle.taking.specs.Taken.{withFile, storeWith, fullRow}
 use Rattle.taking.specs.Step.{State}
