@@ -36,7 +36,7 @@ pub record Good (r : Beside) : Type 0 where
   pub plant : validPlant (r .plant) ≡ true
   pub requests : soundRequests (requestsOf (r .requests)) ≡ true
   pub clock : soundClock (clockOf (r .clock)) ≡ true
-  pub command : r .command ≤ 6000 * r .plant .minutes
+  pub command : r .command ≤ 6000 * r .plant .settings .minutes
 
 -- the unit whose pool and store are given, with the view's floor
 abbrev pub unitOf : Beside → View → Stored → Unit
@@ -57,7 +57,7 @@ module _ (r : Beside) (v : View) (good : Good r) (plain : Plain v) (st : Stored)
         pool = facts-pool (st .pool) (v .floor) (h .sound);
         requests = good .requests;
         clock = good .clock;
-        command = le-leb (r .command) (6000 * r .plant .minutes) (good .command);
+        command = le-leb (r .command) (6000 * r .plant .settings .minutes) (good .command);
       })
 
   pub made-full : eqb (length (st .store)) storeLength ≡ true

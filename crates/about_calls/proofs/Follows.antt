@@ -61,7 +61,7 @@ kept-floor s M (agrees e a) = omega (arith, a .floor)
 kept-floor s M (apart e p g h c) = omega (arith, h)
 
 module _ (p : Plant) (valid : validPlant p ≡ true) (n : ℕ) (s : State) (M : Machine) (h : Follows p n s M) where
-  command-least : s .unit .command ≤ 6000 * s .unit .plant .minutes
+  command-least : s .unit .command ≤ 6000 * s .unit .plant .settings .minutes
   command-least = rw (h .command, h .plant) (h .most)
 
   pub follows-sound : isSound (s .unit) ≡ true
@@ -77,7 +77,7 @@ module _ (p : Plant) (valid : validPlant p ≡ true) (n : ℕ) (s : State) (M : 
         h .asks,
         h .clock,
         h .time,
-        le-leb (s .unit .command) (6000 * p .minutes) (rw (h .plant) at command-least),
+        le-leb (s .unit .command) (6000 * p .settings .minutes) (rw (h .plant) at command-least),
       )
 
   -- ---- and what follows holds as the theorem says

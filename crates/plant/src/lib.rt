@@ -244,28 +244,25 @@ impl Plant {
     {
         let id = self.id;
         let mac = self.mac;
-        let settings = self.settings;
-        is_plant_id(&id) & is_mac_address(&mac) & settings.widened().valid()
+        is_plant_id(&id) & is_mac_address(&mac) & self.settings.widened().valid()
     }
 
     // p, in percent of the inverter's capacity P, from the rate r, in percent of C; 0 where P is 0.
     pub fn percent(self, rate: u8) -> u8
         ensures { λ r. ⌜ r ≡ percent (settingsOf self) rate ⌝ }
     {
-        let settings = self.settings;
-        let inverter = settings.inverter as u64;
+        let inverter = self.settings.inverter as u64;
         if inverter == 0 {
             return 0;
         }
-        ((rate as u64) * settings.contracted() / inverter) as u8
+        ((rate as u64) * self.settings.contracted() / inverter) as u8
     }
 
     // The parts that the command goes to at the rate r: p percent. Wide, so that they fit for every u32 N.
     pub fn target(self, rate: u8) -> u64
         ensures { λ r. ⌜ r ≡ partsOf (settingsOf self) (percent (settingsOf self) rate) ⌝ }
     {
-        let settings = self.settings;
-        PARTS_OF_PERCENT * (settings.minutes as u64) * (self.percent(rate) as u64)
+        PARTS_OF_PERCENT * (self.settings.minutes as u64) * (self.percent(rate) as u64)
     }
 
     // The ID's last digit.

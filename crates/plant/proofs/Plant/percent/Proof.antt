@@ -13,7 +13,7 @@ cast-inverter c = search needs
 
 returns : tie.Need-returns
 returns c =
-    let a = c .before .before .before .args in
+    let a = c .before .before .args in
     sym (percent-none (settingsOf (a .self)) (a .rate) (c .if1 .taken))
 
 contracted-requires : tie.Need-contracted-requires
@@ -21,7 +21,7 @@ contracted-requires c κs = search needs
 
 mul-result : tie.Need-mul-result
 mul-result c =
-    let r = c .before .before .before .before .args .rate in
+    let r = c .before .before .before .args .rate in
     omega (arith, product-below r (c .contracted .result) 255 4294967295 (search needs) (omega arith))
 
 div-result : tie.Need-div-result
@@ -30,7 +30,7 @@ div-result c = search needs
 cast-result : tie.Need-cast-result
 unfolding percent
 cast-result c =
-    let a = c .before .before .before .before .args in
+    let a = c .before .before .before .args in
     rw (c .contracted .ensures) (omega (arith, percent-le (settingsOf (a .self)) (a .rate)))
 
 returns-2 : tie.Need-returns-2
