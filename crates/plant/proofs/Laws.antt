@@ -8,13 +8,13 @@ use native.Mathlib.Nat.{le-trans, mul-le-mul-left, mul-le-mul-right, mul-comm, m
 use native.Mathlib.Omega.{arith}
 use lib.Dec.{leb, eqb}
 use lib.ListN.{length, getD}
-use borrow.Author.Tests.{leb-true, eqb-true}
+use borrow.Author.Tests.{le-leb, leb-true, eqb-true}
 use Rattle.rules.specs.Digits.{allAtMost, digits}
 use Rattle.rules.specs.Plant.{Settings, plantId, lastDigit, weightedSum, checkDigit, hexByte, allHex, macAddress, capacity, rampMinutes, validSettings, contracted, percent, partsOf, fullCommand, installing}
 use Rattle.rules.specs.Machine.{fixedWait, updateWait, refusedWait}
 use Rattle.rules.specs.declared.Answer.{Answer}
 use Rattle.rules.specs.declared.Cause.{Cause}
-use Rattle.plant.specs.Plant.{keptFrom, widest, narrowed, settingsOf, validPlant, plantOf, noPlant, refusal, installed}
+use Rattle.plant.specs.Plant.{keptFrom, widest, narrowed, isKept, settingsOf, validPlant, plantOf, noPlant, refusal, installed}
 use Rattle.plant.specs.declared.Plant.{Plant}
 
 -- ---- what a valid plant has, as facts
@@ -97,13 +97,30 @@ settings-facts s e =
       refused-wait-most = omega arith;
     }
 
--- settings in range are kept as they are
-pub kept-whole : (s : Settings) → InRange s → keptFrom (narrowed s) ≡ keptFrom s
-kept-whole s v =
-    let p : s .panel ≤ widest = omega arith in
-    let i : s .inverter ≤ widest = omega arith in
-    let m : s .minutes ≤ widest = omega arith in
-    rw (min-eq-left p, min-eq-left i, min-eq-left m) refl
+-- ---- settings of 32 bits
+
+module _ (s : Settings) where
+  kept-by : s .panel ≤ widest → s .inverter ≤ widest → s .minutes ≤ widest → isKept s ≡ true
+  unfolding isKept
+  kept-by p i m = rw (le-leb _ _ p, le-leb _ _ i, le-leb _ _ m)
+
+  pub in-range-kept : InRange s → isKept s ≡ true
+  in-range-kept v = kept-by (omega arith) (omega arith) (omega arith)
+
+  -- what 32 bits do not hold is not kept as settings in range
+  pub narrowed-kept : InRange (narrowed s) → isKept s ≡ true
+  narrowed-kept v = kept-by (omega arith) (omega arith) (omega arith)
+
+  -- and what they hold is kept as it is
+  pub kept-whole : isKept s ≡ true → keptFrom (narrowed s) ≡ keptFrom s
+  unfolding isKept
+  kept-whole e =
+      let w = both (leb (s .panel) widest && leb (s .inverter) widest) (leb (s .minutes) widest) e in
+      let v = both (leb (s .panel) widest) (leb (s .inverter) widest) (w .0) in
+      let p = min-eq-left (leb-true (s .panel) widest (v .0)) in
+      let i = min-eq-left (leb-true (s .inverter) widest (v .1)) in
+      let m = min-eq-left (leb-true (s .minutes) widest (w .1)) in
+      rw (p, i, m)
 
 pub valid-facts : (p : Plant) → validPlant p ≡ true → Valid p
 unfolding validPlant

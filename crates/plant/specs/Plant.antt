@@ -2,6 +2,7 @@
 use Prim.Native.Nat.{ℕ, min}
 use mathlib.Core.Bool.{Bool, _&&_}
 use mathlib.Core.List.{List}
+use lib.Dec.{leb}
 use lib.ListN.{replicate}
 use Rattle.rules.specs.Plant.{Settings, plantId, macAddress, validSettings, installing}
 use Rattle.rules.specs.declared.Answer.{Answer}
@@ -29,6 +30,10 @@ widest = 4294967295
 -- what a plant keeps of numbers of any width: one that 32 bits do not hold becomes the widest, so that none is cut to one in range
 abbrev pub narrowed : Settings → Settings
 narrowed s = record { panel = min (s .panel) widest; inverter = min (s .inverter) widest; minutes = min (s .minutes) widest }
+
+-- whether 32 bits hold each, as they do of every plant
+unfoldable pub isKept : Settings → Bool
+isKept s = leb (s .panel) widest && leb (s .inverter) widest && leb (s .minutes) widest
 
 -- ---- plants
 

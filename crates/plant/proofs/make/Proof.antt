@@ -2,7 +2,7 @@
 use mathlib.Core.Path.{sym, _∙_}
 use denote.Ref.{now}
 use Rattle.plant.specs.Plant.{givenOf, plantOf}
-use Rattle.plant.proofs.Laws.{Valid, accepted-facts, kept-whole}
+use Rattle.plant.proofs.Laws.{Valid, accepted-facts, in-range-kept, kept-whole}
 use borrow.Author.Needs.{needs}
 use Rattle.plant.proofs.make.Statement.{statement}
 use Rattle.plant.proofs.make.Tie as tie
@@ -27,7 +27,9 @@ narrowed-requires : tie.Need-narrowed-requires
 narrowed-requires c κs = search needs
 
 returns : tie.Need-returns
-returns c = rw (c .narrowed .ensures ∙ kept-whole _ (facts (c .before .before .before .before .before .before .before .before .before) .settings)) (cc)
+returns c =
+    let in-range = facts (c .before .before .before .before .before .before .before .before .before) .settings in
+    rw (c .narrowed .ensures ∙ kept-whole _ (in-range-kept _ in-range)) (cc)
 
 pub make-spec : {M : Type 1} → statement M
 make-spec =
