@@ -41,7 +41,7 @@ pub record Follows (p : Plant) (n : ℕ) (s : State) (M : Machine) : Type 0 wher
   pub command : s .unit .command ≡ M .command
   -- what the machine's values never leave
   pub time : soundClock (M .clock) ≡ true
-  pub asks : soundRequests (M .requests) ≡ true
+  pub asks : soundRequests (settingsOf p) (M .requests) ≡ true
   pub most : M .command ≤ fullCommand (settingsOf p)
   pub kept : Kept s M
 

@@ -29,6 +29,7 @@ use Rattle.about_calls.specs.Theorem.{fresh, Holds, installedState, told
 use Rattle.about_calls.specs.Refusals.{applies}
 use Rattle.about_calls.specs.Installed.{installApplies, InstallRefuses, InstallAccepts, SameValues, InstallFresh, RefusedInstall}
 use Rattle.about_calls.proofs.EveryList.{every-list}
+use Rattle.about_calls.proofs.Unsound.{unsound-list}
 use Rattle.about_calls.proofs.Refusals.{numbered, first, lowest-step}
 
 -- ---- 1 and 2
@@ -139,26 +140,6 @@ install-fresh id mac set e = record {
 none-sound : isSound (freshUnit noPlant) ≡ false
 unfolding freshUnit
 none-sound = sound-is (freshUnit noPlant) ∙ rw no-plant refl
-
-module _ (s : State) (bad : isSound (s .unit) ≡ false) where
-  unsound-step : (c : Call) → step c s ≡ (unsoundReply (s .store) c, s)
-  unfolding applies
-  unsound-step c = go (applies c s Cause.StoreLength) refl
-    where
-      holds : applies c s Cause.Unsound ≡ true
-      holds = rw bad refl
-
-      go : (t : Bool) → applies c s Cause.StoreLength ≡ t → step c s ≡ (refused (numberOf (cond t Cause.StoreLength Cause.Unsound)), s)
-      go true e = lowest-step c s Cause.StoreLength (record { holds = e; least = first c s })
-      go false e = lowest-step c s Cause.Unsound (record { holds = holds; least = one-more (applies c s) Cause.StoreLength e (first c s) })
-
-  unsound-list : (cs : List Call) → (replies cs s ≡ map (unsoundReply (s .store)) cs) × (after cs s ≡ s)
-  unfolding replies after
-  unsound-list [] = (refl, refl)
-  unsound-list (c ∷ cs) =
-      let r = unsound-list cs in
-      let e = unsound-step c in
-      (rw e (ap (λ (l : List Reply). unsoundReply (s .store) c ∷ l) (r .0)), rw e (r .1))
 
 pub refused-install : RefusedInstall
 unfolding installedUnit installed requestOf

@@ -6,7 +6,8 @@ use mathlib.Core.List.{List}
 use denote.Ref.{now}
 use Rattle.rules.specs.Machine.{tick, clockLost, fileTaken, failure, due, ceilingOf, command, freeBlocks}
 use Rattle.rules.specs.declared.Kind.{Kind}
-use Rattle.plant.specs.Plant.{settings}
+use Rattle.c_structs.specs.Held.{settingsIn}
+use Rattle.c_structs.specs.declared.structs.HeldSettings.{HeldSettings}
 use Rattle.c_structs.specs.declared.structs.HeldUnit.{HeldUnit}
 use Rattle.c_structs.specs.declared.structs.Handed.{Handed}
 use Rattle.c_structs.specs.declared.answers.Number.{Number}
@@ -29,8 +30,8 @@ heldWith u store = record { unit = u; store = store }
 
 -- for all that a function is given and whatever it returns (r) and leaves (e): where its contract holds of these, they are the step's
 pub record EachSays : Type 0 where
-  pub install : (κs : _) (id mac : _) (panel inverter minutes : ℕ) (r : Handed) (e : _) → jag-install.Learnt κs (id, (mac, (panel, (inverter, (minutes, tt))))) r e
-      → r ≡ heldInstall (now id) (now mac) (settings panel inverter minutes)
+  pub install : (κs : _) (id mac : _) (given : HeldSettings) (r : Handed) (e : _) → jag-install.Learnt κs (id, (mac, (given, tt))) r e
+      → r ≡ heldInstall (now id) (now mac) (settingsIn given)
   pub ticks : (κs : _) (u : HeldUnit) (t : ℕ) (store : _) (r : Handed) (e : _) → jag-tick.Learnt κs (u, (t, (store, tt))) r e
       → handedStep r (now store) ≡ heldStep (tick t) (heldWith u (now store))
   pub lost : (κs : _) (u : HeldUnit) (store : List ℕ) (r : Handed) (e : _) → jag-clock-lost.Learnt κs (u, tt) r e

@@ -8,7 +8,7 @@ use Rattle.rules.specs.Store.{soundClock}
 use Rattle.rules.specs.declared.Answer.{Answer}
 use Rattle.plant.specs.Plant.{keptOf, isKept, settingsOf}
 use Rattle.plant.specs.declared.Settings.{Settings as Kept}
-use Rattle.plant.proofs.Laws.{valid-facts, narrowed-kept, kept-whole}
+use Rattle.plant.proofs.Laws.{valid-facts, in-range-kept, narrowed-kept, kept-whole}
 use Rattle.pool.proofs.BelowLaws.{and-true}
 use Rattle.unit.specs.Values.{clockOf, isSound}
 use Rattle.unit.specs.declared.Unit.{Unit}
@@ -104,6 +104,15 @@ no-unit h e = go (isSound (opened h)) refl
     go : (t : Bool) → isSound (opened h) ≡ t → isSound (opened h) ≡ false
     go false k = k
     go true k = absurd (false≢true (sym e ∙ rw (clock-such h k, settings-such h k)))
+
+-- ---- settings that no unit has
+
+pub sound-kept : (u : Unit) → isSound u ≡ true → isKept (settingsOf (u .plant)) ≡ true
+sound-kept u e = in-range-kept (settingsOf (u .plant)) (valid-facts (u .plant) (sound-parts u e .plant) .settings)
+
+pub wide-held : (u : Unit) → isKept (settingsOf (u .plant)) ≡ false → isHeldUnit (shutOf u) ≡ false
+unfolding shutOf isHeldUnit
+wide-held u k = rw (clock-held (u .clock), k)
 
 -- ---- refusals
 
