@@ -9,7 +9,7 @@ use borrow.Author.Tests.{lt-ltb, le-leb, eq-eqb}
 use Rattle.rules.specs.Store.{storeLength, soundRequests, soundClock, soundStore}
 use Rattle.rules.specs.Causes.{Reply}
 use Rattle.rules.specs.Machine.{Call}
-use Rattle.plant.specs.Plant.{validPlant}
+use Rattle.plant.specs.Plant.{settingsOf, validPlant}
 use Rattle.plant.specs.declared.Plant.{Plant}
 use Rattle.pool.specs.Held.{heldOf}
 use Rattle.pool.proofs.SoundLaws.{facts-pool}
@@ -34,7 +34,7 @@ pub record Beside : Type 0 where
 -- all of it is sound
 pub record Good (r : Beside) : Type 0 where
   pub plant : validPlant (r .plant) ≡ true
-  pub requests : soundRequests (requestsOf (r .requests)) ≡ true
+  pub requests : soundRequests (settingsOf (r .plant)) (requestsOf (r .requests)) ≡ true
   pub clock : soundClock (clockOf (r .clock)) ≡ true
   pub command : r .command ≤ 6000 * r .plant .settings .minutes
 
