@@ -11,6 +11,7 @@ use Rattle.rules.specs.Machine.{Call, tick, clockLost, fileTaken, failure, due,
 use Rattle.rules.specs.Digits.{allAtMost}
 use Rattle.rules.specs.Plant.{Settings, installing, plantId, checkDigit, weightedSum, macAddress, allHex}
 use Rattle.rules.specs.Store.{storeLength}
+use Rattle.rules.specs.Table.{firstOf}
 use Rattle.rules.specs.declared.Answer.{Answer}
 use Rattle.rules.specs.declared.Cause.{Cause}
 use Rattle.plant.specs.Plant.{validPlant, plantOf, noPlant, installed}
@@ -18,7 +19,6 @@ use Rattle.plant.specs.declared.Installed.{Installed}
 use Rattle.plant.specs.declared.Plant.{Plant}
 use Rattle.plant.proofs.Laws.{accepted-keeps, accepted-values}
 use Rattle.unit.specs.Values.{isSound, freshUnit, installedUnit}
-use Rattle.unit.specs.Rows.{firstOf}
 use Rattle.unit.specs.Calls.{tickOf, lostOf, failureOf, dueOf, ceilingOf as ceilingAt, commandOf, freeOf}
 use Rattle.taking.specs.Taken.{takeOf, storeAfterTake}
 use Rattle.unit.proofs.CallLaws.{sound-is}

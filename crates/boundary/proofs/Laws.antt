@@ -9,7 +9,6 @@ use native.Mathlib.Omega.{arith}
 use borrow.Author.Tests.{le-leb, lt-leb}
 use mir.Syntax.{w32}
 use mir.Val.{Fits}
-use lib.Dec.{lit≤}
 use lib.ListN.{length, set, getD, take, replicate}
 use lib.Seq.{paste-suc, take-at}
 use Rattle.rules.specs.Causes.{numberOf, ofSummary}
@@ -20,31 +19,14 @@ use Rattle.rules.specs.declared.Cause.{Cause}
 use Rattle.rules.specs.declared.Summary.{Summary}
 use Rattle.listing.specs.Line.{room, lineIn}
 use Rattle.listing.specs.declared.Line.{Line}
+use Rattle.listing.proofs.Short.{cause-small}
 use Rattle.plant.specs.Plant.{installed}
 use Rattle.plant.specs.declared.Installed.{Installed}
 use Rattle.boundary.specs.Numbers.{refusedFrom, answerNumber, putWords, begunWith, copied}
 
-pub number-most : (c : Cause) → numberOf c ≤ 16
-number-most Cause.PlantId = lit≤ tt
-number-most Cause.Setting = lit≤ tt
-number-most Cause.StoreLength = lit≤ tt
-number-most Cause.Unsound = lit≤ tt
-number-most Cause.ClockUnset = lit≤ tt
-number-most Cause.Range = lit≤ tt
-number-most Cause.Name = lit≤ tt
-number-most Cause.OtherPlant = lit≤ tt
-number-most Cause.Form = lit≤ tt
-number-most Cause.Date = lit≤ tt
-number-most Cause.Rate = lit≤ tt
-number-most Cause.Checksum = lit≤ tt
-number-most Cause.RecordPlant = lit≤ tt
-number-most Cause.Full = lit≤ tt
-number-most Cause.Buffer = lit≤ tt
-number-most Cause.ErrorFile = lit≤ tt
-
 -- a cause's number fits beside what is added to it
 pub refused-fits : (n : ℕ) (c : Cause) → n ≡ numberOf c → Fits w32 (refusedFrom + n)
-refused-fits n c e = omega (arith, number-most c)
+refused-fits n c e = omega (arith, cause-small c)
 
 -- ---- the eight words
 
