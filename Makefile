@@ -1,9 +1,13 @@
 # The commands of the README, and what stands beside them.
-.PHONY: demo lister test bench lists fuzz sizes libraries
+.PHONY: demo picture lister test bench lists fuzz sizes libraries
 
-# A turn of the fiscal year, replayed: each call with its answer.
+# A turn of the fiscal year, replayed: each call with its answer, as they are and in words.
 demo:
 	@scripts/demo
+
+# The README's pictures, drawn from replay's answers to that story.
+picture:
+	@scripts/picture
 
 # The lister on example 10 of document 01.
 lister:

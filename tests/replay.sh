@@ -83,5 +83,14 @@ else
     failed=$((failed + 1))
 fi
 
+# the words of the demo, and the pictures that scripts/picture draws
+if python3 -B tests/demo_words.py; then passed=$((passed + 1)); else failed=$((failed + 1)); fi
+if scripts/picture "$folder" && cmp "$folder/picture_day.svg" docs/picture_day.svg && cmp "$folder/picture_blocks.svg" docs/picture_blocks.svg; then
+    passed=$((passed + 1))
+else
+    echo 'FAILED: the pictures in docs/ are not those that scripts/picture draws'
+    failed=$((failed + 1))
+fi
+
 printf '%d passed, %d failed\n' "$passed" "$failed"
 [ "$failed" -eq 0 ] && [ "$passed" -gt 0 ]
