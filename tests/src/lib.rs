@@ -19,9 +19,8 @@ pub mod generate;
 pub mod lent;
 #[cfg(feature = "linked")]
 pub mod lists;
+pub mod program;
 pub mod reference;
 pub mod script;
-#[cfg(feature = "linked")]
-pub mod subject;
 pub mod tally;
 pub mod timing;
