@@ -1,15 +1,8 @@
-//! Calls as the lines that `replay` reads, and answers as the lines that it
-//! prints.
+//! Calls as lines that `replay` reads, in any of the ways in which they may
+//! be written.
 
-use crate::call::{Answer, Call, Due};
-use crate::generate::{outputs, Random};
-use crate::reference::request::request;
-use crate::reference::Machine;
-
-/// 'A line up to 65,536 bytes without its 0A is read.'
-pub const LINE_MAX: usize = 65_536;
-/// The bytes of a request.
-const REQUEST_LENGTH: usize = 84;
+use super::random::Random;
+use crate::call::Call;
 
 /// Hex digits of either case.
 fn hex(bytes: &[u8], random: &mut Random) -> String {
@@ -79,15 +72,9 @@ pub fn install_line(id: &[u8], mac: &[u8], settings: [u64; 3], random: &mut Rand
     ])
 }
 
-/// The line of a request, and what it must be answered with.
-pub fn request_lines(id: &[u8], mac: &[u8], random: &mut Random) -> (Vec<u8>, String) {
-    let (_, _, segment, _, _) = outputs::request(random);
-    let line = joined(&[b"request", &word(&segment, random)]);
-    let answer = match request(id, mac, &segment, REQUEST_LENGTH) {
-        Ok(bytes) => String::from_utf8(bytes).expect("ASCII"),
-        Err(cause) => format!("refused {cause}"),
-    };
-    (line, answer)
+/// The line of a request for a segment.
+pub fn request_line(segment: &[u8], random: &mut Random) -> Vec<u8> {
+    joined(&[b"request", &word(segment, random)])
 }
 
 /// Lines that are no call.
@@ -105,52 +92,3 @@ pub const NO_CALLS: [&[u8]; 12] = [
     b"store 32769 0",
     b"request ",
 ];
-
-/// The line of an answer.
-pub fn answer_line(answer: Answer) -> String {
-    match answer {
-        Answer::Refused(cause) => format!("refused {cause}"),
-        Answer::Accepted => "accepted".to_string(),
-        Answer::Due(Due::Nothing) => "nothing".to_string(),
-        Answer::Due(Due::Update) => "update".to_string(),
-        Answer::Due(Due::Fixed(flag)) => format!("fixed {flag}"),
-        Answer::Ceiling(Some((rate, percent))) => format!("rate {rate} {percent}"),
-        Answer::Ceiling(None) => "none".to_string(),
-        Answer::Number(number) => number.to_string(),
-    }
-}
-
-/// The line of `state`, its months without their blocks: the machine has none.
-pub fn state_line(machine: &Machine) -> String {
-    let flag = |flag: Option<u8>| flag.map_or("none".to_string(), |flag| flag.to_string());
-    let clock = machine
-        .clock
-        .map_or("unset".to_string(), |second| second.to_string());
-    let months: Vec<String> = machine
-        .schedule
-        .held()
-        .iter()
-        .map(|month| month.to_string())
-        .collect();
-    let held = match months.is_empty() {
-        true => "-".to_string(),
-        false => months.join(","),
-    };
-    let requests = &machine.requests;
-    format!(
-        "clock {clock} floor {} w {} h {} k {} f {} u {} command {} held {held}",
-        machine.schedule.floor,
-        flag(requests.wanted_flag),
-        flag(requests.held_flag),
-        requests.failures,
-        requests.fixed_at,
-        requests.update_at,
-        machine.command,
-    )
-}
-
-/// The line of `block`.
-pub fn block_line(machine: &Machine, month: u16) -> String {
-    let bytes = machine.schedule.block_in_layers(month);
-    bytes.iter().map(|byte| format!("{byte:02x}")).collect()
-}
