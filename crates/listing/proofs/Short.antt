@@ -14,7 +14,6 @@ use Rattle.rules.specs.Calendar.{exists, wholeMinute, monthAt, slotsOfMonth}
 use Rattle.rules.specs.Name.{Name, formatNumber, parseName}
 use Rattle.rules.specs.Body.{Record, Body, schedule, registration, parseRecords, parseRegistration, parseRest, counted, parseBody}
 use Rattle.rules.specs.File.{Outcome, refuse, file, idFits, monthBegins, wholeMonth, monthsFrom, firstMonth, recordDates, datesHold, ratesHold, checksumsHold, plantsHold, stages, withBody, withName, readFile}
-use Rattle.rules.specs.Causes.{numberOf}
 use Rattle.rules.specs.Lister.{totalRates, recordCount, rateCount}
 use Rattle.rules.specs.Table.{need}
 use Rattle.rules.specs.declared.Cause.{Cause}
@@ -22,7 +21,6 @@ use Rattle.rules.specs.declared.Format.{Format}
 use Rattle.rules.specs.declared.Format.the-variants.{F201, F202, F203, F301}
 use Rattle.about_files.proofs.Booleans.{both}
 use Rattle.about_files.proofs.Calendar.{days-most}
-use Rattle.about_files.proofs.Causes.{numbered}
 use Rattle.listing.proofs.Parsed.{nothing, parsed}
 
 pub format-small : (f : Format) → formatNumber f < 1000
@@ -30,9 +28,6 @@ format-small F201 = lit< tt
 format-small F202 = lit< tt
 format-small F203 = lit< tt
 format-small F301 = lit< tt
-
-pub cause-small : (c : Cause) → numberOf c < 100
-cause-small c = numbered c .1
 
 -- ---- the rates of whole months
 
