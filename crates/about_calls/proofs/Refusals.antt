@@ -10,12 +10,12 @@ use Rattle.rules.specs.Name.{Name, parseName}
 use Rattle.rules.specs.Body.{Body}
 use Rattle.rules.specs.File.{File, Outcome, refuse, file, takeFile}
 use Rattle.rules.specs.Store.{Requests, soundStore}
-use Rattle.rules.specs.Causes.{Reply, refused, numberOf, ofDue, ofCeiling, ofCommand, ofFreeBlocks}
+use Rattle.rules.specs.Causes.{refused, numberOf, ofDue, ofCeiling, ofCommand, ofFreeBlocks}
 use Rattle.rules.specs.Plant.{Settings, lastDigit}
 use Rattle.pool.specs.Blocks.{freeCount}
 use Rattle.pool.specs.Held.{heldOf}
 use Rattle.rules.specs.Machine.{Call, tick, clockLost, fileTaken, failure, due, ceilingOf, command, freeBlocks}
-use Rattle.rules.specs.Table.{Row, row, firstOf, appliesIn, Lowest}
+use Rattle.rules.specs.Table.{Row, row, firstOf}
 use Rattle.rules.specs.Rows.{takenRows}
 use Rattle.rules.specs.declared.Answer.{Answer}
 use Rattle.rules.specs.declared.Cause.{Cause}
@@ -32,13 +32,12 @@ use Rattle.polling.specs.Due.{asksFixed, dueFor}
 use Rattle.unit.specs.Values.{isSound}
 use Rattle.unit.specs.Rows.{lengthRow, unitRow, soundRow, clockRow, tickRow, slotRow, statusRow}
 use Rattle.unit.specs.Calls.{doneBy, ticked, tickOf, lost, lostOf, withFailure, failureOf, dueBy, dueOf, clockTime, ceilingBy, ceilingAnswer, ceilingOf as ceilingAt, commandBy, commandOf, freeBy, freeOf}
-use Rattle.taking.specs.Taken.{takeRows, takeOf, taken, outcomeRow, fullRow, storeBy, storeWith, storeAfterTake}
+use Rattle.taking.specs.Taken.{takeRows, takeOf, taken, outcomeRow, storeBy, storeWith, storeAfterTake}
 use Rattle.taking.specs.Step.{State, stepDone, step}
 use Rattle.unit.specs.declared.Unit.{Unit}
 use Rattle.about_calls.specs.Acceptance.{together}
 use Rattle.about_calls.specs.Full.{crowds, fullBreaks}
 use Rattle.about_calls.specs.Refusals.{ofFile, callRows, isRefused, fileRows, RefusesLowest, RefusalLeaves, AcceptsElse, FileRefuses, FileAccepts}
-use Rattle.about_calls.proofs.Asks.{both}
 use Rattle.about_calls.proofs.Full.{answerOf, causeIn, done-answer, full-is, full-cause}
 
 -- the rows that each call's own definition looks at, one after the other
