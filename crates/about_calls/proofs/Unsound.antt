@@ -1,41 +1,42 @@
 -- A unit that is not sound, and a struct that stands for one: every call is refused, with unit or struct and store as they were. Assumes nothing.
 use Prim.Native.Nat.{ℕ}
-use mathlib.Core.Path.{_≡_, refl, ap}
-use mathlib.Core.Bool.{Bool, true, false, cond}
+use mathlib.Core.Path.{_≡_, refl, ap, _∙_}
+use mathlib.Core.Bool.{Bool, true, false, cond, not, _&&_}
 use mathlib.Core.List.{List, [], _∷_, map}
+use mathlib.Core.Option.{some}
 use lib.Dec.{eqb}
 use lib.ListN.{length}
 use Rattle.rules.specs.Store.{storeLength}
-use Rattle.rules.specs.Causes.{Reply, refused, numberOf}
+use Rattle.rules.specs.Table.{firstOf}
+use Rattle.rules.specs.Causes.{Reply}
 use Rattle.rules.specs.Machine.{Call, tick, clockLost, fileTaken, failure, due, ceilingOf, command, freeBlocks}
 use Rattle.rules.specs.declared.Cause.{Cause}
-use Rattle.about_files.proofs.ReadRefusals.{one-more}
 use Rattle.unit.specs.Values.{isSound}
-use Rattle.unit.specs.Rows.{firstOf}
 use Rattle.unit.specs.Calls.{tickOf, lostOf, failureOf, dueOf, ceilingOf as ceilingAt, commandOf, freeOf}
+use Rattle.unit.specs.Request.{requestOf}
 use Rattle.taking.specs.Taken.{takeOf, storeAfterTake}
 use Rattle.taking.specs.Step.{State, step, replies, after}
 use Rattle.c_structs.specs.Held.{opened, handed}
 use Rattle.c_structs.specs.declared.structs.HeldUnit.{HeldUnit}
 use Rattle.about_calls.specs.Lists.{HeldState, heldStep, heldReplies, heldAfter}
 use Rattle.about_calls.specs.FromC.{AllRefused}
-use Rattle.about_calls.specs.Theorem.{unsoundReply}
-use Rattle.about_calls.specs.Refusals.{applies}
-use Rattle.about_calls.proofs.Refusals.{first, lowest-step}
+use Rattle.about_calls.specs.Theorem.{lent, unsoundReply}
+use Rattle.about_calls.specs.Refusals.{callRows}
+use Rattle.about_calls.proofs.Refusals.{rows-same, step-refuses}
 
 -- ---- the unit
 
 module _ (s : State) (bad : isSound (s .unit) ≡ false) where
-  pub unsound-step : (c : Call) → step c s ≡ (unsoundReply (s .store) c, s)
-  unfolding applies
-  unsound-step c = go (applies c s Cause.StoreLength) refl
+  unsound-first : (c : Call) → firstOf (callRows c s) ≡ some (cond (lent c && not (eqb (length (s .store)) storeLength)) Cause.StoreLength Cause.Unsound)
+  unfolding firstOf callRows
+  unsound-first c = rw bad (go (lent c && not (eqb (length (s .store)) storeLength)))
     where
-      holds : applies c s Cause.Unsound ≡ true
-      holds = rw bad refl
+      go : (t : Bool) → cond t (some Cause.StoreLength) (some Cause.Unsound) ≡ some (cond t Cause.StoreLength Cause.Unsound)
+      go true = refl
+      go false = refl
 
-      go : (t : Bool) → applies c s Cause.StoreLength ≡ t → step c s ≡ (refused (numberOf (cond t Cause.StoreLength Cause.Unsound)), s)
-      go true e = lowest-step c s Cause.StoreLength (record { holds = e; least = first c s })
-      go false e = lowest-step c s Cause.Unsound (record { holds = holds; least = one-more (applies c s) Cause.StoreLength e (first c s) })
+  pub unsound-step : (c : Call) → step c s ≡ (unsoundReply (s .store) c, s)
+  unsound-step c = step-refuses c s _ (rows-same c s ∙ unsound-first c)
 
   pub unsound-list : (cs : List Call) → (replies cs s ≡ map (unsoundReply (s .store)) cs) × (after cs s ≡ s)
   unfolding replies after
@@ -74,9 +75,13 @@ module _ (u : HeldUnit) (bad : isSound (opened u) ≡ false) (store : List ℕ) 
   step-refused command = rw bad
   step-refused freeBlocks = rw bad
 
-  pub all-refused : AllRefused s
+  list-refused : (cs : List Call) → (heldReplies cs s ≡ map (unsoundReply store) cs) × (heldAfter cs s ≡ s)
   unfolding heldReplies heldAfter
-  all-refused [] = (refl, refl)
-  all-refused (c ∷ cs) =
-      let rest = all-refused cs in
+  list-refused [] = (refl, refl)
+  list-refused (c ∷ cs) =
+      let rest = list-refused cs in
       rw (step-refused c) (ap (λ (rs : List Reply). unsoundReply store c ∷ rs) (rest .0), rest .1)
+
+  pub all-refused : AllRefused s
+  unfolding requestOf
+  all-refused = (list-refused, λ segment room. rw bad refl)

@@ -7,6 +7,7 @@ use lib.Dec.{leb, ltb}
 use Rattle.rules.specs.Plant.{lastDigit}
 use Rattle.rules.specs.Store.{soundUnit, soundMonths, soundBlocks, soundRequests, soundClock, freshRequests}
 use Rattle.rules.specs.Machine.{failed, isStatus}
+use Rattle.rules.specs.Table.{firstOf}
 use Rattle.rules.specs.declared.Answer.{Answer}
 use Rattle.rules.specs.declared.Cause.{Cause}
 use Rattle.rules.specs.declared.Command.{Command}
@@ -21,7 +22,6 @@ use Rattle.polling.specs.Requests.{requestsOf, requestsFrom}
 use Rattle.polling.specs.Due.{dueFor}
 use Rattle.polling.specs.declared.Requests.{Requests}
 use Rattle.unit.specs.Values.{clockOf, valuesOf, isSound, freshPool, freshUnit}
-use Rattle.unit.specs.Rows.{firstOf}
 use Rattle.unit.specs.Calls.{refusal, lost, lostOf, withFailure, failureOf, dueOf, commandOf, freeOf}
 use Rattle.unit.specs.declared.Unit.{Unit}
 use Rattle.unit.specs.declared.Clock.the-variants.{Unset, At}

@@ -8,6 +8,7 @@ use Rattle.rules.specs.Calendar.{slotOf}
 use Rattle.rules.specs.Plant.{Settings, lastDigit, percent}
 
 use Rattle.rules.specs.Machine.{raisedFloor, approach, target, failed}
+use Rattle.rules.specs.Table.{firstOf}
 use Rattle.rules.specs.declared.Cause.{Cause}
 use Rattle.rules.specs.declared.Answer.{Answer}
 use Rattle.rules.specs.declared.Ceiling.{Ceiling}
@@ -22,7 +23,7 @@ use Rattle.schedule.specs.Stored.{storedRate}
 use Rattle.polling.specs.Requests.{requestsOf, requestsFrom}
 use Rattle.polling.specs.Due.{dueFor}
 
-use Rattle.unit.specs.Rows.{firstOf, lengthRow, unitRow, soundRow, clockRow, tickRow, slotRow, statusRow}
+use Rattle.unit.specs.Rows.{lengthRow, unitRow, soundRow, clockRow, tickRow, slotRow, statusRow}
 use Rattle.unit.specs.declared.Unit.{Unit}
 use Rattle.unit.specs.declared.Done.{Done}
 use Rattle.unit.specs.declared.Clock.{Clock}
