@@ -1,17 +1,12 @@
 -- The theorem for C: the unit's, and the list from C is the unit's; from jag_install on, accepted or refused. Assumes nothing.
 use Prim.Native.Nat.{ℕ}
 use mathlib.Core.Path.{_≡_, refl, ap, _∙_}
-use mathlib.Core.Bool.{Bool, true, false}
-use mathlib.Core.List.{List, [], _∷_, map}
+use mathlib.Core.Bool.{true, false}
+use mathlib.Core.List.{List}
 use native.Mathlib.Omega.{arith}
-use lib.Dec.{eqb}
-use lib.ListN.{length}
-use Rattle.rules.specs.Causes.{Reply, accepted, refused, numberOf}
-use Rattle.rules.specs.Machine.{Call, tick, clockLost, fileTaken, failure, due, ceilingOf, command, freeBlocks}
+use Rattle.rules.specs.Causes.{accepted, refused, numberOf}
 use Rattle.rules.specs.Digits.{allAtMost}
 use Rattle.rules.specs.Plant.{Settings, installing, plantId, checkDigit, weightedSum, macAddress, allHex}
-use Rattle.rules.specs.Store.{storeLength}
-use Rattle.rules.specs.Table.{firstOf}
 use Rattle.rules.specs.declared.Answer.{Answer}
 use Rattle.rules.specs.declared.Cause.{Cause}
 use Rattle.plant.specs.Plant.{isKept, settingsOf, validPlant, plantOf, noPlant, installed}
@@ -19,16 +14,12 @@ use Rattle.plant.specs.declared.Installed.{Installed}
 use Rattle.plant.specs.declared.Plant.{Plant}
 use Rattle.plant.proofs.Laws.{accepted-keeps, accepted-values}
 use Rattle.unit.specs.Values.{isSound, freshUnit, installedUnit}
-use Rattle.unit.specs.Request.{requestOf}
-use Rattle.unit.specs.Calls.{tickOf, lostOf, failureOf, dueOf, ceilingOf as ceilingAt, commandOf, freeOf}
-use Rattle.taking.specs.Taken.{takeOf, storeAfterTake}
 use Rattle.unit.proofs.CallLaws.{sound-is}
-use Rattle.c_structs.specs.Held.{opened, shutOf, handed, newly}
-use Rattle.c_structs.specs.declared.structs.HeldUnit.{HeldUnit}
+use Rattle.c_structs.specs.Held.{shutOf, newly}
 use Rattle.c_structs.proofs.Handing.{unit-back}
-use Rattle.about_calls.specs.Lists.{HeldState, heldInstall, heldStep, heldReplies, heldAfter}
-use Rattle.about_calls.specs.Theorem.{fresh, unsoundReply}
-use Rattle.about_calls.specs.FromC.{EveryListFromC, InstalledFromC, AllRefused, UnsoundFromC, RefusedFromC}
+use Rattle.about_calls.specs.Lists.{heldInstall}
+use Rattle.about_calls.specs.Theorem.{fresh}
+use Rattle.about_calls.specs.FromC.{EveryListFromC, InstalledFromC, UnsoundFromC, RefusedFromC}
 use Rattle.about_calls.proofs.Lists.{cause-refused, same-from-c}
 use Rattle.about_calls.proofs.Unsound.{all-refused}
 use Rattle.about_calls.proofs.EveryList.{every-list}

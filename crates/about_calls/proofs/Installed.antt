@@ -2,14 +2,11 @@
 use Prim.Native.Nat.{ℕ}
 use mathlib.Core.Path.{_≡_, refl, sym, ap, _∙_, subst}
 use mathlib.Core.Bool.{Bool, true, false, cond, not, _&&_}
-use mathlib.Core.List.{List, [], _∷_, map}
+use mathlib.Core.List.{List, []}
 use mathlib.Core.Option.{none, some}
-use lib.Dec.{eqb}
-use lib.ListN.{length}
 use Rattle.rules.specs.Plant.{Settings, plantId, macAddress, validSettings, installing}
-use Rattle.rules.specs.Store.{storeLength, freshValues}
-use Rattle.rules.specs.Causes.{Reply}
-use Rattle.rules.specs.Machine.{Call, freshMachine, replies as machineReplies, after as machineAfter}
+use Rattle.rules.specs.Store.{freshValues}
+use Rattle.rules.specs.Machine.{freshMachine, replies as machineReplies, after as machineAfter}
 use Rattle.rules.specs.Table.{firstOf}
 use Rattle.rules.specs.Rows.{installRows}
 use Rattle.rules.specs.declared.Answer.{Answer}
@@ -24,11 +21,10 @@ use Rattle.pool.specs.Held.{heldBelow}
 use Rattle.pool.proofs.BelowLaws.{all-at}
 use Rattle.unit.specs.Values.{valuesOf, isSound, freshUnit, installedUnit}
 use Rattle.unit.specs.Request.{requestOf}
-use Rattle.taking.specs.Step.{State, step, replies, after}
+use Rattle.taking.specs.Step.{State, replies, after}
 use Rattle.unit.specs.declared.Unit.{Unit}
 use Rattle.unit.proofs.CallLaws.{sound-is}
-use Rattle.about_calls.specs.Theorem.{fresh, Holds, installedState, toldBy, EveryListInstalled, lent, unsoundReply}
-use Rattle.about_calls.specs.Refusals.{callRows}
+use Rattle.about_calls.specs.Theorem.{fresh, Holds, installedState, toldBy, EveryListInstalled}
 use Rattle.about_calls.specs.Installed.{InstallRefuses, InstallAccepts, SameValues, InstallFresh, RefusedInstall}
 use Rattle.about_calls.proofs.EveryList.{every-list}
 use Rattle.about_calls.proofs.Full.{answerOf, causeIn}
