@@ -2,7 +2,7 @@
 //! same calls, and the demand that they hold the same.
 
 use crate::call::Call;
-use crate::firmware;
+use crate::firmware::{self, Settings};
 use crate::fixed::{self, Month, BLOCK};
 
 /// Both units, and the library's store.
@@ -23,13 +23,13 @@ fn number<T>(answer: &Result<T, u8>) -> u32 {
 
 impl Both {
     /// Both installed with lawful values.
-    pub fn install(id: &[u8], mac: &[u8], panel: u64, inverter: u64, minutes: u64) -> Both {
-        let done = firmware::install(id, mac, panel, inverter, minutes);
+    pub fn install(id: &[u8], mac: &[u8], settings: Settings) -> Both {
+        let done = firmware::install(id, mac, settings);
         assert_eq!(done.cause, 0, "lawful values");
         Both {
             unit: done.unit,
             store: vec![0; firmware::STORE_LENGTH],
-            fixed: fixed::Unit::install(id, mac, panel, inverter, minutes).expect("lawful values"),
+            fixed: fixed::Unit::install(id, mac, settings).expect("lawful values"),
         }
     }
 
@@ -111,14 +111,8 @@ impl Both {
             update_at: unit.update_at,
         };
         assert_eq!(requests, fixed.requests);
-        let plant = fixed::Plant {
-            id: unit.id,
-            mac: unit.mac,
-            panel: unit.panel,
-            inverter: unit.inverter,
-            minutes: unit.minutes,
-        };
-        assert_eq!(plant, fixed.plant);
+        let plant = fixed::Plant::of(unit.id, unit.mac, unit.settings);
+        assert_eq!(plant, Some(fixed.plant));
         assert!(self.held_by_library() == self.held_by_arrays(), "months");
     }
 

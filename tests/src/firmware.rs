@@ -18,6 +18,27 @@ pub const STORE_LENGTH: usize = BLOCK_COUNT * BLOCK_LENGTH;
 /// No flag, wanted or held.
 pub const NO_FLAG: u8 = 10;
 
+/// `jag_settings`: what an installer gives. Capacities in W, and the ramp
+/// minutes N.
+#[repr(C)]
+#[derive(Clone, Copy, Debug, PartialEq, Eq)]
+pub struct Settings {
+    pub panel: u64,
+    pub inverter: u64,
+    pub minutes: u64,
+}
+
+impl Settings {
+    /// `jag_settings_of`.
+    pub const fn of(panel: u64, inverter: u64, minutes: u64) -> Settings {
+        Settings {
+            panel,
+            inverter,
+            minutes,
+        }
+    }
+}
+
 /// `jag_unit`: the unit as the caller keeps it.
 #[repr(C)]
 #[derive(Clone, Copy, Debug, PartialEq, Eq)]
@@ -29,15 +50,13 @@ pub struct Unit {
     pub failures: u8,
     pub clock_set: u8,
     pub floor: u16,
-    pub panel: u32,
-    pub inverter: u32,
-    pub minutes: u32,
+    pub months: [u16; BLOCK_COUNT],
+    pub free: u16,
     pub clock: u32,
     pub command: u32,
     pub fixed_at: u64,
     pub update_at: u64,
-    pub months: [u16; BLOCK_COUNT],
-    pub free: u16,
+    pub settings: Settings,
 }
 
 /// `jag_done`: the unit after a call, and 0 or a cause.

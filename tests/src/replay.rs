@@ -11,6 +11,7 @@ use std::collections::BTreeMap;
 use std::ops::Range;
 
 use crate::call::{Answer, Call, Due};
+use crate::firmware::Settings;
 use crate::reference::machine::STORE_LENGTH;
 use crate::reference::request::{request, REQUEST_LENGTH};
 use crate::reference::schedule::BLOCK_LENGTH;
@@ -205,7 +206,7 @@ impl Replay {
     }
 
     /// A refused install keeps the unit that there is; the store stays.
-    fn install(&mut self, id: &[u8], mac: &[u8], settings: [u64; 3]) -> String {
+    fn install(&mut self, id: &[u8], mac: &[u8], settings: Settings) -> String {
         match Machine::install(id, mac, settings, self.store_length) {
             Ok(machine) => {
                 self.installed = Some(Installed::new(machine, mac.to_vec()));

@@ -5,7 +5,7 @@ use compare::call::{Answer, Call};
 use compare::firmware::answers::answer;
 use compare::firmware::{self, FileAnswer, STORE_LENGTH};
 use compare::generate::cases::values;
-use compare::generate::draft::{ascii, PLANT_X};
+use compare::generate::draft::{ascii, PLANT_X, SETTINGS_X};
 use compare::generate::{outputs, Random, DATE_SEED};
 use compare::reference::body::checksum;
 use compare::reference::calendar::{self, are_digits, days_of_month, digits_of, digits_of_slot};
@@ -168,10 +168,10 @@ fn months_and_slots() {
             assert_eq!(firmware::read(&name, &body).cause, 10, "month {month}");
         }
 
-        let mut unit = firmware::install(&PLANT_X, MAC, 4_000, 5_500, 5).unit;
+        let mut unit = firmware::install(&PLANT_X, MAC, SETTINGS_X).unit;
         let mut store = vec![0; STORE_LENGTH];
-        let mut machine = Machine::install(&PLANT_X, MAC, [4_000, 5_500, 5], STORE_LENGTH)
-            .expect("a valid plant");
+        let mut machine =
+            Machine::install(&PLANT_X, MAC, SETTINGS_X, STORE_LENGTH).expect("a valid plant");
         let mut compare = |call: Call| {
             let library = answer(&mut unit, &mut store, &call).expect("an answer of 01");
             let due = machine.answer(&call);
@@ -199,7 +199,7 @@ fn months_and_slots() {
 fn slots_past_the_end() {
     let mut random = Random::new(DATE_SEED);
     let store = vec![0; STORE_LENGTH];
-    let fresh = firmware::install(&PLANT_X, MAC, 4_000, 5_500, 5).unit;
+    let fresh = firmware::install(&PLANT_X, MAC, SETTINGS_X).unit;
     let unit = firmware::tick(fresh, 0, &store).unit;
     let last = u64::from(SLOTS);
     let some = (0..200_000).map(|_| random.between(last, u64::from(u32::MAX)));

@@ -1,9 +1,9 @@
 //! The library that firmware links against the reference: bodies written,
 //! error files, installs, requests, and percent of the inverter.
 
-use compare::firmware::{self, CeilingAnswer, ErrorAnswer, FileAnswer, Unit, Written};
-use compare::firmware::{NO_FLAG, STORE_LENGTH};
-use compare::generate::draft::PLANT_X;
+use compare::firmware::{self, CeilingAnswer, ErrorAnswer, FileAnswer};
+use compare::firmware::{Settings, Unit, Written, NO_FLAG, STORE_LENGTH};
+use compare::generate::draft::{PLANT_X, SETTINGS_X};
 use compare::generate::fields::Orders;
 use compare::generate::outputs::{self, MESSAGES};
 use compare::generate::{Random, ERROR_SEED, FIELD_SEED, INSTALL_SEED, REQUEST_SEED};
@@ -16,8 +16,6 @@ use compare::tally::Tally;
 /// Inputs of each kind.
 const INPUTS: usize = 40_000;
 const MAC: &[u8; 12] = b"012389ABCDEF";
-/// Panel and inverter (W), and ramp minutes.
-const SETTINGS: [u64; 3] = [4_000, 5_500, 5];
 
 fn cause_of<T>(answer: &Result<T, u8>) -> u8 {
     answer.as_ref().err().copied().unwrap_or(0)
@@ -142,13 +140,11 @@ fn error_files() {
     tally.settle(&[16]);
 }
 
-/// Installs with panel, inverter and minutes. The unit that comes back must be
-/// 01's fresh one (of a free block the month is open), or, whatever was
-/// given, the one that stands for none.
-fn compare_install(id: &[u8], mac: &[u8], settings: [u64; 3], tally: &mut Tally) -> (Unit, u8) {
-    let [panel, inverter, minutes] = settings;
-    let done = firmware::install(id, mac, panel, inverter, minutes);
-    let due = plant::install(id, mac, panel, inverter, minutes);
+/// Installs. The unit that comes back must be 01's fresh one (of a free block
+/// the month is open), or, whatever was given, the one that stands for none.
+fn compare_install(id: &[u8], mac: &[u8], settings: Settings, tally: &mut Tally) -> (Unit, u8) {
+    let done = firmware::install(id, mac, settings);
+    let due = plant::install(id, mac, settings);
     assert_eq!(done.cause, u32::from(cause_of(&due)), "{id:?} {settings:?}");
     let unit = match due {
         Ok(()) => Unit {
@@ -159,17 +155,15 @@ fn compare_install(id: &[u8], mac: &[u8], settings: [u64; 3], tally: &mut Tally)
             failures: 0,
             clock_set: 0,
             floor: 0,
-            panel: panel as u32,
-            inverter: inverter as u32,
-            minutes: minutes as u32,
+            months: done.unit.months,
+            free: u16::MAX,
             clock: 0,
             command: 0,
             fixed_at: 0,
             update_at: 0,
-            months: done.unit.months,
-            free: u16::MAX,
+            settings,
         },
-        Err(_) => firmware::install(&[], &[], 0, 0, 0).unit,
+        Err(_) => firmware::install(&[], &[], SETTINGS_X).unit,
     };
     assert_eq!(done.unit, unit);
     tally.add(&due);
@@ -197,11 +191,11 @@ fn compare_percent(unit: Unit, store: &mut [u8]) {
             cause: 0,
             has_rate: 1,
             rate: u32::from(rate),
-            percent: plant::percent(unit.panel, unit.inverter, rate),
+            percent: plant::percent(unit.settings, rate),
         };
         let slot = u64::from(first) + u64::from(rate);
         let answer = firmware::ceiling(taken.unit, slot, store);
-        assert_eq!(answer, due, "{} {}", unit.panel, unit.inverter);
+        assert_eq!(answer, due, "{:?}", unit.settings);
     }
 }
 
@@ -213,8 +207,7 @@ fn installs_and_percent() {
     let mut store = vec![0; STORE_LENGTH];
     for _ in 0..INPUTS {
         let made = outputs::install(&mut random);
-        let settings = [made.panel, made.inverter, made.minutes];
-        let (unit, cause) = compare_install(&made.id, &made.mac, settings, &mut tally);
+        let (unit, cause) = compare_install(&made.id, &made.mac, made.settings, &mut tally);
         assert_eq!(cause, made.expected);
         if cause == 0 {
             compare_percent(unit, &mut store);
@@ -228,7 +221,7 @@ fn installs_and_percent() {
                 0..26 => id[place] = value,
                 _ => mac[place - 26] = value,
             }
-            compare_install(&id, &mac, SETTINGS, &mut tally);
+            compare_install(&id, &mac, SETTINGS_X, &mut tally);
         }
     }
     tally.settle(&[1, 2]);
@@ -253,7 +246,7 @@ fn requests() {
         let (id, mac, segment, room, cause) = outputs::request(&mut random);
         let made = request(&id, &mac, &segment, room);
         assert_eq!(cause_of(&made), cause, "{id:?} {mac:?} {segment:?} {room}");
-        let (unit, installed) = compare_install(&id, &mac, SETTINGS, &mut installs);
+        let (unit, installed) = compare_install(&id, &mac, SETTINGS_X, &mut installs);
         let expected = match installed {
             0 => made,
             _ => Err(4),
@@ -261,7 +254,7 @@ fn requests() {
         tally.add(&expected);
         compare_request(unit, &segment, room, expected);
     }
-    let (unit, _) = compare_install(&PLANT_X, MAC, SETTINGS, &mut installs);
+    let (unit, _) = compare_install(&PLANT_X, MAC, SETTINGS_X, &mut installs);
     for segment in 0..10_000 {
         let segment = format!("{segment:04}").into_bytes();
         let expected = request(&PLANT_X, MAC, &segment, 90);

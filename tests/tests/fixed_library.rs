@@ -3,7 +3,7 @@
 
 use compare::both::Both;
 use compare::firmware::STORE_LENGTH;
-use compare::fixed::{Month, Unit, BLOCK};
+use compare::fixed::{Month, Plant, Unit, BLOCK};
 use compare::generate::calls::{Calls, Installing};
 use compare::generate::spoil::{all_spoils, Spoil};
 use compare::generate::{Random, LIST_SEED};
@@ -14,14 +14,12 @@ use compare::tally::Tally;
 const LISTS: u64 = 150;
 const CALLS: u64 = 60;
 
-/// The library's unit and store as a unit with fixed arrays.
-fn in_arrays(both: &Both) -> Unit {
+/// The library's unit and store as a unit with fixed arrays. Nothing where that
+/// has no room for a setting.
+fn in_arrays(both: &Both) -> Option<Unit> {
     let mut fixed = both.fixed.clone();
     let unit = &both.unit;
-    fixed.plant.id = unit.id;
-    fixed.plant.mac = unit.mac;
-    (fixed.plant.panel, fixed.plant.inverter) = (unit.panel, unit.inverter);
-    fixed.plant.minutes = unit.minutes;
+    fixed.plant = Plant::of(unit.id, unit.mac, unit.settings)?;
     (fixed.floor, fixed.command) = (unit.floor, unit.command);
     fixed.clock = (unit.clock_set == 1).then_some(unit.clock);
     fixed.requests.wanted_flag = unit.wanted_flag;
@@ -37,7 +35,7 @@ fn in_arrays(both: &Both) -> Unit {
             rates: bytes.try_into().expect("a block"),
         });
     }
-    fixed
+    Some(fixed)
 }
 
 /// Both with one thing changed from outside; nothing where fixed arrays can't
@@ -53,7 +51,7 @@ fn spoilt(both: &Both, random: &mut Random) -> Option<Both> {
     if !changed || !clock_fits || spoilt.store.len() != STORE_LENGTH {
         return None;
     }
-    spoilt.fixed = in_arrays(&spoilt);
+    spoilt.fixed = in_arrays(&spoilt)?;
     Some(spoilt)
 }
 
@@ -68,8 +66,7 @@ fn lists_of_calls() {
         let Installing {
             id, mac, settings, ..
         } = Installing::some(&mut random);
-        let [panel, inverter, minutes] = settings;
-        let mut both = Both::install(&id, &mac, panel, inverter, minutes);
+        let mut both = Both::install(&id, &mac, settings);
         // What the next call is aimed at.
         let mut machine =
             Machine::install(&id, &mac, settings, STORE_LENGTH).expect("valid values");

@@ -4,7 +4,7 @@
 use std::mem::{offset_of, size_of};
 
 use compare::firmware::{self, CeilingAnswer, Done, DueAnswer, ErrorAnswer};
-use compare::firmware::{FileAnswer, Number, Places, Unit, Written};
+use compare::firmware::{FileAnswer, Number, Places, Settings, Unit, Written};
 use compare::reference::calendar::{days_of_month, MONTHS};
 
 const HEADER: &str = include_str!("../../include/jagwelu.h");
@@ -45,7 +45,7 @@ fn every_field_has_its_place() {
         .map(|line| line.rsplit_once(", ").expect("a place").0)
         .collect();
     assert_eq!(fields(), named);
-    assert!(named.len() >= 51);
+    assert!(named.len() >= 52);
 }
 
 /// The header's places, in its order and words.
@@ -59,9 +59,10 @@ fn places() {
         };
     }
     let here = places! {
+        "jag_settings" Settings: panel inverter minutes;
         "jag_unit" Unit:
-            id mac wanted_flag held_flag failures clock_set floor panel inverter minutes
-            clock command fixed_at update_at months free;
+            id mac wanted_flag held_flag failures clock_set floor months free
+            clock command fixed_at update_at settings;
         "jag_done" Done: unit cause;
         "jag_number" Number: cause value;
         "jag_written" Written: length cause;
@@ -78,6 +79,7 @@ fn places() {
 #[test]
 fn sizes() {
     let here = [
+        ("jag_settings", size_of::<Settings>()),
         ("jag_unit", size_of::<Unit>()),
         ("jag_done", size_of::<Done>()),
         ("jag_number", size_of::<Number>()),
@@ -109,10 +111,10 @@ fn called<'a>(text: &'a str, before: &str) -> Vec<&'a str> {
 fn functions() {
     let declared = called(CALLS, "    fn ");
     assert_eq!(declared.len(), 18);
-    // The comment at the header's top shows a tick.
+    // The comment at the header's top shows a tick; one is the header's own.
     let header = called(HEADER, " ");
-    assert_eq!(header[0], "jag_tick");
-    assert_eq!(header[1..], declared);
+    assert_eq!(header[..2], ["jag_tick", "jag_settings_of"]);
+    assert_eq!(header[2..], declared);
 }
 
 /// The number that the header defines under a name.

@@ -5,7 +5,7 @@ use compare::call::Call;
 use compare::firmware::answers::answer;
 use compare::firmware::{self, BLOCK_LENGTH, STORE_LENGTH};
 use compare::generate::cases::{example_10, special, values};
-use compare::generate::draft::PLANT_X;
+use compare::generate::draft::{PLANT_X, SETTINGS_X};
 use compare::generate::{LISTS_IN_THE_GATE, LIST_SEED};
 use compare::lists::{run, Counts};
 use compare::reference::calendar::{moment, start_slot};
@@ -28,7 +28,7 @@ fn lists_of_calls() {
 #[test]
 fn a_month_without_a_rate() {
     let mac = b"012389ABCDEF";
-    let fresh = firmware::install(&PLANT_X, mac, 4_000, 5_500, 5).unit;
+    let fresh = firmware::install(&PLANT_X, mac, SETTINGS_X).unit;
     let mut store = vec![0; STORE_LENGTH];
     let second = moment(&values("20260327090000")).expect("exists");
     let mut unit = firmware::tick(fresh, second, &store).unit;
@@ -60,13 +60,12 @@ fn a_month_without_a_rate() {
 #[test]
 fn special_files_taken() {
     let mac = b"012389ABCDEF";
-    let settings = [4_000, 5_500, 5];
     let second = moment(&values("20260327090000")).expect("exists");
     for case in special() {
-        let mut unit = firmware::install(&PLANT_X, mac, 4_000, 5_500, 5).unit;
+        let mut unit = firmware::install(&PLANT_X, mac, SETTINGS_X).unit;
         let mut store = vec![0; STORE_LENGTH];
         let mut machine =
-            Machine::install(&PLANT_X, mac, settings, STORE_LENGTH).expect("valid values");
+            Machine::install(&PLANT_X, mac, SETTINGS_X, STORE_LENGTH).expect("valid values");
         let file = Call::TakeFile {
             name: case.name,
             body: case.body,

@@ -2,7 +2,7 @@
 
 use compare::call::{Answer, Call, Due};
 use compare::generate::cases::{example_10, values};
-use compare::generate::draft::PLANT_X;
+use compare::generate::draft::{PLANT_X, SETTINGS_X};
 use compare::reference::calendar::{moment, start_slot, END, SLOTS};
 use compare::reference::machine::STORE_LENGTH;
 use compare::reference::requests::{in_window, next_window, window_start};
@@ -20,7 +20,7 @@ fn slot(digits: &str) -> u64 {
 
 /// Plant X, panel 4,000, inverter 5,500, N 5, with the clock at a second.
 fn plant_x_at(clock: &str) -> Machine {
-    let mut machine = Machine::install(&PLANT_X, MAC, [4_000, 5_500, 5], STORE_LENGTH)
+    let mut machine = Machine::install(&PLANT_X, MAC, SETTINGS_X, STORE_LENGTH)
         .expect("a valid ID and valid settings");
     let tick = Call::Tick {
         second: second(clock),

@@ -2,7 +2,7 @@
 //! the generator's.
 
 use compare::generate::cases::{example_10, special, values};
-use compare::generate::draft::PLANT_X;
+use compare::generate::draft::{PLANT_X, SETTINGS_X};
 use compare::generate::outputs::{self, MESSAGES};
 use compare::generate::{almanac, Random, DATE_SEED};
 use compare::reference::error_file::read_error_file;
@@ -17,8 +17,8 @@ fn example_1_check_digit() {
     let mut wrong = PLANT_X;
     wrong[25] = 4;
     let mac = b"012389ABCDEF";
-    assert_eq!(plant::install(&wrong, mac, 4_000, 5_500, 5), Err(1));
-    assert_eq!(plant::install(&PLANT_X, mac, 4_000, 5_500, 5), Ok(()));
+    assert_eq!(plant::install(&wrong, mac, SETTINGS_X), Err(1));
+    assert_eq!(plant::install(&PLANT_X, mac, SETTINGS_X), Ok(()));
 }
 
 #[test]
@@ -63,8 +63,8 @@ fn example_3_yearly_body() {
 
 #[test]
 fn example_4_percent() {
-    assert_eq!(plant::percent(4_000, 5_500, 40), 29);
-    assert_eq!(plant::percent(4_000, 5_500, 100), 72);
+    assert_eq!(plant::percent(SETTINGS_X, 40), 29);
+    assert_eq!(plant::percent(SETTINGS_X, 100), 72);
 }
 
 #[test]

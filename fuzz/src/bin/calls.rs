@@ -4,7 +4,7 @@
 #![no_main]
 
 use compare::call::{Answer, Call};
-use compare::firmware::{self, Unit, BLOCK_LENGTH, STORE_LENGTH};
+use compare::firmware::{self, Settings, Unit, BLOCK_LENGTH, STORE_LENGTH};
 use compare::generate::draft::check_digit;
 use compare::reference::machine::Machine;
 use compare::reference::requests::Requests;
@@ -36,9 +36,9 @@ fn install(input: &mut Input) -> Pair {
         253 => 0,
         _ => STORE_LENGTH,
     };
-    let done = firmware::install(&id, MAC, panel, inverter, minutes);
+    let settings = Settings::of(panel, inverter, minutes);
+    let done = firmware::install(&id, MAC, settings);
     assert_eq!(done.cause, 0);
-    let settings = [panel, inverter, minutes];
     Pair {
         unit: done.unit,
         store: vec![input.byte(); length],

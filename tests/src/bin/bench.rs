@@ -9,7 +9,7 @@ use compare::both::Both;
 use compare::fast;
 use compare::firmware::{self, FileAnswer};
 use compare::generate::cases::values;
-use compare::generate::draft::{ascii, PLANT_X};
+use compare::generate::draft::{ascii, PLANT_X, SETTINGS_X};
 use compare::generate::Random;
 use compare::reference::calendar::{digits_of_slot, first_slot, start_slot};
 use compare::reference::{write, Fields};
@@ -62,7 +62,7 @@ fn second(start: &str) -> u64 {
 /// A pair that holds 16 months, March 2026 to June 2027, at a second not
 /// later than April 2026.
 fn full_pair(clock: u64, random: &mut Random) -> Both {
-    let mut pair = Both::install(&PLANT_X, b"012389ABCDEF", 4_000, 5_500, 5);
+    let mut pair = Both::install(&PLANT_X, b"012389ABCDEF", SETTINGS_X);
     assert_eq!(pair.tick(clock), 0);
     let yearly = yearly_file(random);
     assert_eq!(pair.take_file(&yearly.name, &yearly.body), 0);
@@ -236,7 +236,7 @@ fn races() -> Vec<Row> {
     let update = file(203, "202604290930", 336, random);
     let clock = second("202604100930");
     let full = full_pair(clock, random);
-    let mut empty = Both::install(&PLANT_X, b"012389ABCDEF", 4_000, 5_500, 5);
+    let mut empty = Both::install(&PLANT_X, b"012389ABCDEF", SETTINGS_X);
     assert_eq!(empty.tick(clock), 0);
     let taking = "yearly file read and taken, 13 months";
     let mut rows = vec![

@@ -172,8 +172,7 @@ impl Script {
             30 | 31 => self.add(random.pick(&[b"", b"#", b"# due"])),
             32 | 33 => {
                 let made = outputs::install(random);
-                let settings = [made.panel, made.inverter, made.minutes];
-                self.add(&install_line(&made.id, &made.mac, settings, random));
+                self.add(&install_line(&made.id, &made.mac, made.settings, random));
             }
             34 => self.change_store(random),
             35..38 => self.block(random),

@@ -2,15 +2,15 @@
 //! passes as pointer, then length.
 
 use super::{
-    CeilingAnswer, Done, DueAnswer, ErrorAnswer, FileAnswer, Number, Places, Unit, Written,
+    CeilingAnswer, Done, DueAnswer, ErrorAnswer, FileAnswer, Number, Places, Settings, Unit,
+    Written,
 };
 use crate::reference::Fields;
 
 #[rustfmt::skip]
 extern "C" {
     fn jag_install(
-        id: *const u8, id_length: usize, mac: *const u8, mac_length: usize,
-        panel: u64, inverter: u64, minutes: u64,
+        id: *const u8, id_length: usize, mac: *const u8, mac_length: usize, settings: Settings,
     ) -> Done;
     fn jag_tick(unit: Unit, second: u64, store: *const u8, store_length: usize) -> Done;
     fn jag_clock_lost(unit: Unit) -> Done;
@@ -48,19 +48,9 @@ extern "C" {
     fn jag_error_file(file: *const u8, file_length: usize) -> ErrorAnswer;
 }
 
-pub fn install(id: &[u8], mac: &[u8], panel: u64, inverter: u64, minutes: u64) -> Done {
+pub fn install(id: &[u8], mac: &[u8], settings: Settings) -> Done {
     // SAFETY: here and below, each pointer comes with its own slice's length.
-    unsafe {
-        jag_install(
-            id.as_ptr(),
-            id.len(),
-            mac.as_ptr(),
-            mac.len(),
-            panel,
-            inverter,
-            minutes,
-        )
-    }
+    unsafe { jag_install(id.as_ptr(), id.len(), mac.as_ptr(), mac.len(), settings) }
 }
 
 pub fn tick(unit: Unit, second: u64, store: &[u8]) -> Done {

@@ -17,6 +17,7 @@ pub use plant::Plant;
 pub use questions::Due;
 pub use requests::Requests;
 
+use crate::firmware::Settings;
 use calendar::{END, MONTHS};
 
 /// Parts of a full command for each minute of the ramp.
@@ -39,15 +40,9 @@ pub struct Unit {
 
 impl Unit {
     /// The fresh unit of these values, or cause 1 or 2.
-    pub fn install(
-        id: &[u8],
-        mac: &[u8],
-        panel: u64,
-        inverter: u64,
-        minutes: u64,
-    ) -> Result<Unit, u8> {
+    pub fn install(id: &[u8], mac: &[u8], settings: Settings) -> Result<Unit, u8> {
         Ok(Unit {
-            plant: Plant::install(id, mac, panel, inverter, minutes)?,
+            plant: Plant::install(id, mac, settings)?,
             months: Months::default(),
             requests: Requests::default(),
             clock: None,

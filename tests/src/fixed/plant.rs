@@ -1,5 +1,7 @@
 //! The plant: its ID, its MAC address and its settings.
 
+use crate::firmware::Settings;
+
 const WEIGHTS: [u8; 25] = [
     1, 3, 5, 7, 9, 1, 3, 5, 7, 9, 1, 3, 5, 7, 9, 1, 3, 5, 7, 9, 1, 3, 5, 7, 9,
 ];
@@ -41,25 +43,25 @@ fn is_mac(mac: &[u8; 12]) -> bool {
 }
 
 impl Plant {
+    /// The plant of these values. Nothing where it has no room for a setting.
+    pub fn of(id: [u8; 26], mac: [u8; 12], settings: Settings) -> Option<Plant> {
+        Some(Plant {
+            id,
+            mac,
+            panel: settings.panel.try_into().ok()?,
+            inverter: settings.inverter.try_into().ok()?,
+            minutes: settings.minutes.try_into().ok()?,
+        })
+    }
+
     /// The plant of these values, or cause 1 or 2.
-    pub fn install(
-        id: &[u8],
-        mac: &[u8],
-        panel: u64,
-        inverter: u64,
-        minutes: u64,
-    ) -> Result<Plant, u8> {
+    pub fn install(id: &[u8], mac: &[u8], settings: Settings) -> Result<Plant, u8> {
         let id = id.try_into().map_err(|_| 1)?;
         if !is_plant_id(&id) {
             return Err(1);
         }
-        let plant = Plant {
-            id,
-            mac: mac.try_into().map_err(|_| 2)?,
-            panel: panel.try_into().map_err(|_| 2)?,
-            inverter: inverter.try_into().map_err(|_| 2)?,
-            minutes: minutes.try_into().map_err(|_| 2)?,
-        };
+        let mac = mac.try_into().map_err(|_| 2)?;
+        let plant = Plant::of(id, mac, settings).ok_or(2)?;
         if plant.is_set_well() {
             Ok(plant)
         } else {

@@ -6,7 +6,7 @@ use super::random::Random;
 use super::shapes::{Shape, SHAPES};
 use super::{files, instants, outputs};
 use crate::call::Call;
-use crate::firmware::STORE_LENGTH;
+use crate::firmware::{Settings, STORE_LENGTH};
 use crate::reference::Machine;
 
 /// What a list is installed with.
@@ -14,8 +14,7 @@ use crate::reference::Machine;
 pub struct Installing {
     pub id: Vec<u8>,
     pub mac: Vec<u8>,
-    /// Panel, inverter (W) and ramp minutes.
-    pub settings: [u64; 3],
+    pub settings: Settings,
     /// The store as it is lent: any bytes, at times of a wrong length.
     pub store: Vec<u8>,
 }
@@ -63,7 +62,7 @@ impl Installing {
         Installing {
             id: plant_with_digit(digit, random),
             mac: outputs::mac(random),
-            settings: [panel, inverter, random.between(5, 10)],
+            settings: Settings::of(panel, inverter, random.between(5, 10)),
             store: some_store(random),
         }
     }

@@ -5,11 +5,15 @@ use super::almanac::{
     self, digits, first_slot, month_start, slots, some_moment, some_month, MONTHS, SLOTS,
 };
 use super::random::Random;
+use crate::firmware::Settings;
 
 /// Plant X of 01's examples.
 pub const PLANT_X: [u8; 26] = [
     1, 2, 3, 4, 5, 6, 7, 8, 9, 0, 1, 2, 3, 4, 5, 6, 7, 8, 9, 0, 1, 2, 3, 4, 5, 5,
 ];
+
+/// Its settings in 01's bench examples.
+pub const SETTINGS_X: Settings = Settings::of(4_000, 5_500, 5);
 
 /// A name's parts, in ASCII.
 #[derive(Clone)]

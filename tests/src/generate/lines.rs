@@ -3,6 +3,7 @@
 
 use super::random::Random;
 use crate::call::Call;
+use crate::firmware::Settings;
 
 /// Hex digits of either case.
 fn hex(bytes: &[u8], random: &mut Random) -> String {
@@ -55,13 +56,18 @@ pub fn call_line(call: &Call, random: &mut Random) -> Vec<u8> {
 
 /// The line of installing: a plain ID is written with its digits' characters,
 /// one that has no such form as `hex:`.
-pub fn install_line(id: &[u8], mac: &[u8], settings: [u64; 3], random: &mut Random) -> Vec<u8> {
+pub fn install_line(id: &[u8], mac: &[u8], settings: Settings, random: &mut Random) -> Vec<u8> {
     let plain = !id.is_empty() && id.iter().all(|digit| *digit <= 9);
     let id = match plain && !random.once_in(4) {
         true => id.iter().map(|digit| b'0' + digit).collect(),
         false => format!("hex:{}", hex(id, random)).into_bytes(),
     };
-    let numbers = settings.map(|number| number.to_string());
+    let Settings {
+        panel,
+        inverter,
+        minutes,
+    } = settings;
+    let numbers = [panel, inverter, minutes].map(|number| number.to_string());
     joined(&[
         b"install",
         &id,

@@ -3,6 +3,7 @@
 use super::almanac::{moment, some_moment, spoil_date, spoil_year};
 use super::draft::{check_digit, some_plant};
 use super::random::Random;
+use crate::firmware::Settings;
 
 /// 002's table 6.4.
 pub const MESSAGES: [(u32, &str); 11] = [
@@ -262,13 +263,11 @@ pub fn request(random: &mut Random) -> (Vec<u8>, Vec<u8>, Vec<u8>, usize, u8) {
     )
 }
 
-/// An install's values: ID, MAC, panel, inverter, ramp minutes.
+/// An install's values.
 pub struct Install {
     pub id: Vec<u8>,
     pub mac: Vec<u8>,
-    pub panel: u64,
-    pub inverter: u64,
-    pub minutes: u64,
+    pub settings: Settings,
     /// 0 for installed.
     pub expected: u8,
 }
@@ -297,12 +296,14 @@ pub fn install(random: &mut Random) -> Install {
         } else {
             mac(random)
         },
-        panel: capacity(random, faults[2]),
-        inverter: capacity(random, faults[3]),
-        minutes: if faults[4] {
-            random.pick(&wrong_minutes)
-        } else {
-            random.between(5, 10)
+        settings: Settings {
+            panel: capacity(random, faults[2]),
+            inverter: capacity(random, faults[3]),
+            minutes: if faults[4] {
+                random.pick(&wrong_minutes)
+            } else {
+                random.between(5, 10)
+            },
         },
         expected: match faults.iter().position(|fault| *fault) {
             None => 0,

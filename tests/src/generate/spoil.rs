@@ -54,15 +54,29 @@ fn flip(unit: &mut Unit, field: u64, random: &mut Random) {
         4 => unit.failures ^= 1 << (bit % 8),
         5 => unit.clock_set ^= 1 << (bit % 8),
         6 => unit.floor ^= 1 << (bit % 16),
-        7 => unit.panel ^= 1 << (bit % 32),
-        8 => unit.inverter ^= 1 << (bit % 32),
-        9 => unit.minutes ^= 1 << (bit % 32),
-        10 => unit.clock ^= 1 << (bit % 32),
-        11 => unit.command ^= 1 << (bit % 32),
-        12 => unit.fixed_at ^= 1 << bit,
-        13 => unit.update_at ^= 1 << bit,
-        _ => unit.months[place] ^= 1 << (bit % 16),
+        7 => unit.months[place] ^= 1 << (bit % 16),
+        8 => unit.clock ^= 1 << (bit % 32),
+        9 => unit.command ^= 1 << (bit % 32),
+        10 => unit.fixed_at ^= 1 << bit,
+        11 => unit.update_at ^= 1 << bit,
+        12 => unit.settings.panel ^= 1 << bit,
+        13 => unit.settings.inverter ^= 1 << bit,
+        _ => unit.settings.minutes ^= 1 << bit,
     }
+}
+
+/// A setting out of range: one of these, the greatest of 32 or 64 bits, or one
+/// whose low 32 bits are the old one.
+fn wrong(setting: u64, near: &[u64], random: &mut Random) -> u64 {
+    match random.below(2) {
+        0 => random.pick(near),
+        _ => random.pick(&[u64::from(u32::MAX), u64::MAX, setting + (1 << 32)]),
+    }
+}
+
+/// The command at 100%.
+fn full_command(unit: &Unit) -> u32 {
+    6_000 * unit.settings.minutes as u32
 }
 
 /// The changes to ID, MAC, settings, flags, times and command.
@@ -80,15 +94,15 @@ static VALUE_SPOILS: &[Spoil] = &[
         true
     }),
     spoil(Outcome::Unit, "panel", |unit, _, random| {
-        unit.panel = random.pick(&[0, 2_000_001, u32::MAX]);
+        unit.settings.panel = wrong(unit.settings.panel, &[0, 2_000_001], random);
         true
     }),
     spoil(Outcome::Unit, "inverter", |unit, _, random| {
-        unit.inverter = random.pick(&[0, 2_000_001, u32::MAX]);
+        unit.settings.inverter = wrong(unit.settings.inverter, &[0, 2_000_001], random);
         true
     }),
     spoil(Outcome::Unit, "ramp minutes", |unit, _, random| {
-        unit.minutes = random.pick(&[0, 4, 11, 261, u32::MAX]);
+        unit.settings.minutes = wrong(unit.settings.minutes, &[0, 4, 11, 261], random);
         true
     }),
     spoil(Outcome::Unit, "wanted flag above 10", |unit, _, random| {
@@ -142,7 +156,7 @@ static VALUE_SPOILS: &[Spoil] = &[
         },
     ),
     spoil(Outcome::Unit, "command above 100%", |unit, _, random| {
-        unit.command = random.pick(&[6_000 * unit.minutes + 1, u32::MAX]);
+        unit.command = random.pick(&[full_command(unit) + 1, u32::MAX]);
         true
     }),
     spoil(
@@ -153,7 +167,7 @@ static VALUE_SPOILS: &[Spoil] = &[
                 0 => unit.wanted_flag = random.pick(&[0, 9, 10]),
                 1 => unit.held_flag = random.pick(&[0, 9, 10]),
                 2 => unit.failures = random.pick(&[0, 5]),
-                3 => unit.command = 6_000 * unit.minutes,
+                3 => unit.command = full_command(unit),
                 4 => unit.fixed_at = TIMES_END - 1,
                 5 => unit.update_at = TIMES_END - 1,
                 _ => {

@@ -65,7 +65,6 @@ fn some_store(unit: &Unit, random: &mut Random) -> Vec<u8> {
 /// clock often at `now`.
 pub fn pair(now: u64, random: &mut Random) -> Pair {
     let values = Installing::some(random);
-    let [panel, inverter, minutes] = values.settings.map(|value| value as u32);
     let clock_set = random.pick(&[1, 1, 1, 0]);
     let floor = u64::from(month_of_second(now)) + random.below(6);
     let mut unit = Unit {
@@ -76,15 +75,13 @@ pub fn pair(now: u64, random: &mut Random) -> Pair {
         failures: random.below(6) as u8,
         clock_set,
         floor: floor.saturating_sub(4).min(u64::from(MONTHS - 1)) as u16,
-        panel,
-        inverter,
-        minutes,
-        clock: u32::from(clock_set) * now as u32,
-        command: random.below(u64::from(6_000 * minutes + 1)) as u32,
-        fixed_at: some_time(now, random),
-        update_at: some_time(now, random),
         months: [0; BLOCK_COUNT],
         free: 0,
+        clock: u32::from(clock_set) * now as u32,
+        command: random.below(6_000 * values.settings.minutes + 1) as u32,
+        fixed_at: some_time(now, random),
+        update_at: some_time(now, random),
+        settings: values.settings,
     };
     for month in &mut unit.months {
         *month = random.bits() as u16;

@@ -111,16 +111,14 @@ pub fn writes_agree(
 impl Pair {
     /// Installs both, from values that they accept.
     pub fn install(values: &Installing) -> Result<Pair, String> {
-        let [panel, inverter, minutes] = values.settings;
-        let done = firmware::install(&values.id, &values.mac, panel, inverter, minutes);
+        let done = firmware::install(&values.id, &values.mac, values.settings);
         same("installing", done.cause, 0)?;
         let store = &values.store;
         let machine = Machine::install(&values.id, &values.mac, values.settings, store.len())
             .map_err(|cause| format!("installing: library 0, reference {cause}"))?;
         same("ID", done.unit.id.as_slice(), &values.id)?;
         same("MAC", done.unit.mac.as_slice(), &values.mac)?;
-        let settings = [done.unit.panel, done.unit.inverter, done.unit.minutes];
-        same("settings", settings.map(u64::from), values.settings)?;
+        same("settings", done.unit.settings, values.settings)?;
         agree(&done.unit, &machine)?;
         Ok(Pair::of(machine, done.unit, store))
     }
@@ -215,11 +213,12 @@ impl Pair {
         let length_fits = store.len() == firmware::STORE_LENGTH;
         same("soundness after the list", sound.is_ok(), length_fits)?;
         same("bytes around the store", self.store.margins_stayed(), true)?;
-        let Unit { id, mac, .. } = self.unit;
+        let Unit {
+            id, mac, settings, ..
+        } = self.unit;
         same("ID", id, self.installed.id)?;
         same("MAC", mac, self.installed.mac)?;
-        let settings = |unit: &Unit| [unit.panel, unit.inverter, unit.minutes];
-        same("settings", settings(&self.unit), settings(&self.installed))?;
+        same("settings", settings, self.installed.settings)?;
         check_request(&self.unit, random)?;
         self.check_view()
     }

@@ -87,14 +87,8 @@ fn one_call(unit: Unit, store: &[u8], whole: &[u8], call: &Call) -> Result<Answe
 /// Installing with any values. A refusal gives a unit 'of which every call is
 /// refused with 3 or 4'.
 pub fn install(install: &Install, counts: &mut Counts) -> Result<(), String> {
-    let Install {
-        panel,
-        inverter,
-        minutes,
-        ..
-    } = *install;
-    let done = firmware::install(&install.id, &install.mac, panel, inverter, minutes);
-    let expected = plant::install(&install.id, &install.mac, panel, inverter, minutes);
+    let done = firmware::install(&install.id, &install.mac, install.settings);
+    let expected = plant::install(&install.id, &install.mac, install.settings);
     let cause = expected.err().unwrap_or(0);
     same("installing", done.cause, u32::from(cause))?;
     *counts.installs.entry(cause).or_insert(0) += 1;

@@ -6,19 +6,12 @@ use super::plant::{self, percent};
 use super::requests::Requests;
 use super::schedule::Schedule;
 use crate::call::{Answer, Call};
+use crate::firmware::Settings;
 
 /// The bytes of a store: 16 blocks of 1,488.
 pub const STORE_LENGTH: usize = 23_808;
 /// The most months that may be held.
 const MONTHS_MAX: usize = 16;
-
-/// Capacities in W and the ramp minutes N.
-#[derive(Clone, Copy, Debug, PartialEq, Eq)]
-pub struct Settings {
-    pub panel: u32,
-    pub inverter: u32,
-    pub minutes: u32,
-}
 
 /// The machine. 'It is told the plant ID, the settings, the store's length.'
 #[derive(Clone, Debug, PartialEq, Eq)]
@@ -47,17 +40,13 @@ impl Machine {
     pub fn install(
         id: &[u8],
         mac: &[u8],
-        [panel, inverter, minutes]: [u64; 3],
+        settings: Settings,
         store_length: usize,
     ) -> Result<Machine, u8> {
-        plant::install(id, mac, panel, inverter, minutes)?;
+        plant::install(id, mac, settings)?;
         Ok(Machine {
             id: id.to_vec(),
-            settings: Settings {
-                panel: panel as u32,
-                inverter: inverter as u32,
-                minutes: minutes as u32,
-            },
+            settings,
             store_length,
             clock: None,
             schedule: Schedule::default(),
@@ -139,12 +128,9 @@ impl Machine {
         if slot >= u64::from(SLOTS) {
             return Err(6);
         }
-        let Settings {
-            panel, inverter, ..
-        } = self.settings;
         let rate = self.schedule.rate(slot as u32);
         Ok(Answer::Ceiling(
-            rate.map(|rate| (rate, percent(panel, inverter, rate))),
+            rate.map(|rate| (rate, percent(self.settings, rate))),
         ))
     }
 }

@@ -2,6 +2,7 @@
 //! inverter's capacity.
 
 use super::calendar::are_digits;
+use crate::firmware::Settings;
 
 /// Weights of an ID's digits, repeating (002, 3.2 (1)).
 const WEIGHTS: [u32; 5] = [1, 3, 5, 7, 9];
@@ -32,21 +33,27 @@ pub fn is_mac(mac: &[u8]) -> bool {
 }
 
 /// Installing: cause 1 by the ID, cause 2 by MAC or settings.
-pub fn install(id: &[u8], mac: &[u8], panel: u64, inverter: u64, minutes: u64) -> Result<(), u8> {
+pub fn install(id: &[u8], mac: &[u8], settings: Settings) -> Result<(), u8> {
     if !is_plant_id(id) {
         return Err(1);
     }
-    let capacities_fit =
-        (1..=CAPACITY_MAX).contains(&panel) && (1..=CAPACITY_MAX).contains(&inverter);
-    if !is_mac(mac) || !capacities_fit || !(5..=10).contains(&minutes) {
+    if !is_mac(mac) || !are_settings(settings) {
         return Err(2);
     }
     Ok(())
 }
 
+/// Is each in its range?
+fn are_settings(settings: Settings) -> bool {
+    let capacity = 1..=CAPACITY_MAX;
+    capacity.contains(&settings.panel)
+        && capacity.contains(&settings.inverter)
+        && (5..=10).contains(&settings.minutes)
+}
+
 /// p = floor(r × C ÷ P), with C the lesser capacity and P the inverter's.
-pub fn percent(panel: u32, inverter: u32, rate: u8) -> u32 {
-    let lesser = u64::from(panel.min(inverter));
-    let percent = u64::from(rate) * lesser / u64::from(inverter);
+pub fn percent(settings: Settings, rate: u8) -> u32 {
+    let lesser = settings.panel.min(settings.inverter);
+    let percent = u64::from(rate) * lesser / settings.inverter;
     percent as u32
 }

@@ -26,9 +26,8 @@ fn toward(command: u32, target: u32, seconds: u64) -> u32 {
 impl Machine {
     /// '60 × N × p of that second's slot; no rate counts as r = 0.'
     pub fn target(&self, rate: Option<u8>) -> u32 {
-        let settings = &self.settings;
-        let p = percent(settings.panel, settings.inverter, rate.unwrap_or(0));
-        60 * settings.minutes * p
+        let p = percent(self.settings, rate.unwrap_or(0));
+        60 * self.settings.minutes as u32 * p
     }
 
     /// A tick to a second below T.

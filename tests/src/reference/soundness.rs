@@ -5,7 +5,7 @@ use std::collections::BTreeSet;
 
 use super::body::{File, Record};
 use super::calendar::{days_of_month, first_slot, END, MONTHS};
-use super::machine::{Machine, Settings, STORE_LENGTH};
+use super::machine::{Machine, STORE_LENGTH};
 use super::name::Segment;
 use super::plant;
 use super::requests::Requests;
@@ -37,9 +37,7 @@ fn months_are_sound(unit: &Unit) -> bool {
 
 /// 'A unit is sound when ..'
 fn unit_is_sound(unit: &Unit) -> bool {
-    let settings = [unit.panel, unit.inverter, unit.minutes].map(u64::from);
-    let [panel, inverter, minutes] = settings;
-    plant::install(&unit.id, &unit.mac, panel, inverter, minutes).is_ok()
+    plant::install(&unit.id, &unit.mac, unit.settings).is_ok()
         && unit.floor < MONTHS
         && months_are_sound(unit)
         && unit.wanted_flag <= NO_FLAG
@@ -48,7 +46,7 @@ fn unit_is_sound(unit: &Unit) -> bool {
         && clock_is_sound(unit)
         && unit.fixed_at < TIMES_END
         && unit.update_at < TIMES_END
-        && unit.command <= 6_000 * unit.minutes
+        && u64::from(unit.command) <= 6_000 * unit.settings.minutes
 }
 
 /// 'Each held block's bytes are 0 to 100 or 255, and 255 past its month's
@@ -140,11 +138,7 @@ pub fn machine_of(unit: &Unit, store: &[u8]) -> Machine {
     let flag = |flag: u8| (flag != NO_FLAG).then_some(flag);
     Machine {
         id: unit.id.to_vec(),
-        settings: Settings {
-            panel: unit.panel,
-            inverter: unit.inverter,
-            minutes: unit.minutes,
-        },
+        settings: unit.settings,
         store_length: store.len(),
         clock: (unit.clock_set == 1).then_some(u64::from(unit.clock)),
         schedule: schedule_of(unit.floor, blocks(unit, store)),

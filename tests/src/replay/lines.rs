@@ -1,6 +1,7 @@
 //! A line of a list of calls, read as the README describes it.
 
 use crate::call::Call;
+use crate::firmware::Settings;
 
 /// The longest store.
 const STORE_MAX: u64 = 32_768;
@@ -10,7 +11,7 @@ pub enum Asked {
     Install {
         id: Vec<u8>,
         mac: Vec<u8>,
-        settings: [u64; 3],
+        settings: Settings,
     },
     Store {
         length: usize,
@@ -127,7 +128,7 @@ pub fn asked(line: &[u8]) -> Option<Asked> {
         [b"install", id, mac, panel, inverter, minutes] => Asked::Install {
             id: digits(id)?,
             mac: bytes(mac)?,
-            settings: [number(panel)?, number(inverter)?, number(minutes)?],
+            settings: Settings::of(number(panel)?, number(inverter)?, number(minutes)?),
         },
         [b"store", length, value] => Asked::Store {
             length: number(length).filter(|length| *length <= STORE_MAX)? as usize,
