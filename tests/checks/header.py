@@ -9,6 +9,7 @@ HEADER = "include/jagwelu.h"
 SOURCE = "crates/jagwelu/src/*.rt"
 NUMBERS = {"u32": "uint32_t", "u64": "uint64_t", "usize": "size_t"}
 STRUCTS = {
+    "HeldSettings": "struct jag_settings",
     "HeldUnit": "struct jag_unit",
     "Handed": "struct jag_done",
     "Number": "struct jag_number",
