@@ -123,7 +123,11 @@ fn is_capacity(watts: u64) -> bool
 fn narrow(wide: u64) -> u32
     ensures { λ r. ⌜ r ≡ min wide widest ⌝ }
 {
-    if wide <= WIDEST { wide as u32 } else { WIDEST as u32 }
+    if wide <= WIDEST {
+        wide as u32
+    } else {
+        WIDEST as u32
+    }
 }
 
 // Copies a whole slice.

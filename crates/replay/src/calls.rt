@@ -4,10 +4,10 @@ use crate::progress::Progress;
 use crate::shown;
 use crate::stores;
 use crate::stores::most_of;
-use script_fields::Field;
 use plant::GivenSettings;
 use rules::Answer;
 use script::Ask;
+use script_fields::Field;
 use taking::Call;
 use unit::Unit;
 
@@ -39,13 +39,7 @@ fn plain_step(was: Progress, call: Call, store: &mut [u8], out: &mut [u8]) -> Pr
 }
 
 // 'A refused install keeps the unit there was; an accepted one keeps the store.'
-fn install(
-    was: Progress,
-    id: &[u8],
-    mac: &[u8],
-    given: GivenSettings,
-    out: &mut [u8],
-) -> Progress {
+fn install(was: Progress, id: &[u8], mac: &[u8], given: GivenSettings, out: &mut [u8]) -> Progress {
     let made = Unit::install(id, mac, given);
     let answer = made.answer;
     let unit = made.unit;
@@ -98,7 +92,8 @@ fn take_line(was: Progress, line: &[u8], store: &mut [u8], out: &mut [u8]) -> Pr
 
 fn request_line(was: Progress, line: &[u8], out: &mut [u8]) -> Progress {
     let mut segment = io::large_buffer();
-    let Field::Length(long) = script_fields::bytes_of(script_words::word(line, 1), &mut segment) else {
+    let Field::Length(long) = script_fields::bytes_of(script_words::word(line, 1), &mut segment)
+    else {
         return was.says(b"unknown", out);
     };
     if was.installed {

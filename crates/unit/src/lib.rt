@@ -12,8 +12,8 @@ mod tick;
 
 use plant::GivenSettings;
 use plant::Plant;
-use pool::Pool;
 use polling::Requests;
+use pool::Pool;
 use rules::Answer;
 use rules::Cause;
 use rules::Ceiling;
