@@ -9,7 +9,7 @@ use Rattle.rules.specs.Digits.{part, allAtMost, value, sameBytes}
 use Rattle.rules.specs.Calendar.{exists, monthIn, dayIn, monthAt, moment, secondsOf, slotOf, startSlot, wholeMinute, slotsOfMonth, slotCount}
 use Rattle.rules.specs.Plant.{plantId}
 use Rattle.rules.specs.Name.{Name, parseName, lawfulName, segmentMonth}
-use Rattle.rules.specs.Body.{Record, Body, schedule, registration, parseBody, formOfBody, every, isSchedule}
+use Rattle.rules.specs.Body.{highestRate, Record, Body, schedule, registration, parseBody, formOfBody, every, isSchedule}
 use Rattle.rules.specs.declared.Cause.{Cause}
 use Rattle.rules.specs.declared.Format.{Format}
 use Rattle.rules.specs.declared.Format.the-variants.{F201, F202, F203, F301}
@@ -69,7 +69,7 @@ datesHold n (registration plant result) = true
 -- ---- stage 11: 'rate above 100'
 
 unfoldable pub ratesHold : Body → Bool
-ratesHold (schedule rs) = every (λ r. allAtMost 100 (r .rates)) rs
+ratesHold (schedule rs) = every (λ r. allAtMost highestRate (r .rates)) rs
 ratesHold (registration plant result) = true
 
 -- ---- stage 12: 'sum of the rates modulo (month + day of the start), two digits. The flag isn't summed'
