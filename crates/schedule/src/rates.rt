@@ -4,10 +4,10 @@ ghost use lib.ListN.{getD};
 ghost use Rattle.rules.specs.Store.{noRate, fromByte};
 ghost use Rattle.schedule.specs.Stored.{storedRate};
 ghost use Rattle.schedule.specs.Rates.{rateOption};
-use crate::layout::BLOCK;
-use crate::layout::NO_RATE;
 use pool::Found;
 use pool::Pool;
+use rules::BLOCK_LENGTH;
+use rules::NO_RATE;
 
 // The rate of a slot, where a file gave one.
 pub enum StoredRate {
@@ -41,7 +41,7 @@ pub fn rate_at(pool: Pool, store: &[u8], slot: u32) -> StoredRate
     match pool.find(month) {
         Found::At(b) => {
             let i = (slot - calendar::first_slot(month)) as usize;
-            rate_of(byte_at(store, b * BLOCK + i))
+            rate_of(byte_at(store, b * BLOCK_LENGTH + i))
         }
         Found::Nothing => StoredRate::NoRate,
     }

@@ -7,6 +7,7 @@ use mathlib.Core.List.{List}
 use lib.ListN.{length}
 use lib.Seq.{sets}
 use borrow.Author.Needs.{needs}
+use Rattle.rules.specs.Store.{blockCount, blockLength}
 use Rattle.pool.specs.Blocks.{findOf}
 use Rattle.pool.specs.declared.Found.the-variants.{At}
 use Rattle.schedule.specs.Rates.{pieceOf}
@@ -26,7 +27,7 @@ enum-known-b c = search needs
 at : (c : tie.After-known-told) → findOf (c .before .before .before .before .before .before .args .pool) (c .before .before .before .before .before .before .args .month) ≡ At (c .before .b .given .0 .0)
 at c = sym (c .before .before .before .find .ensures) ∙ c .before .b .given .1
 
-below : (c : tie.After-known-told) → c .before .b .given .0 .0 < 16
+below : (c : tie.After-known-told) → c .before .b .given .0 .0 < blockCount
 below c = find-below _ _ _ (at c)
 
 mul-at : tie.Need-mul-at
@@ -63,10 +64,10 @@ returns c =
     let k = c .before .before .before .before in
     let b = k .before .b .given .0 .0 in
     let y = c .before .before .copy in
-    let room : b * 1488 + a .from + length (now (a .rates)) ≤ length (now (a .store)) = omega (arith, below k, pre) in
+    let room : b * blockLength + a .from + length (now (a .rates)) ≤ length (now (a .store)) = omega (arith, below k, pre) in
     lay-found (a .pool) (pieceOf (a .month) (a .from) (now (a .rates))) (now (a .store)) b _ (at k)
-    (put-part (now (a .store)) (y .last .0) (b * 1488 + a .from) (length (now (a .rates))) (ap length (y .ensures)) room
-    ∙ ap (λ (vs : List ℕ). sets (now (a .store)) (b * 1488 + a .from) vs) (y .ensures))
+    (put-part (now (a .store)) (y .last .0) (b * blockLength + a .from) (length (now (a .rates))) (ap length (y .ensures)) room
+    ∙ ap (λ (vs : List ℕ). sets (now (a .store)) (b * blockLength + a .from) vs) (y .ensures))
 
 returns-2 : tie.Need-returns-2
 returns-2 c =
