@@ -31,6 +31,9 @@ abbrev pub toByte : Option ℕ → ℕ
 toByte none = noRate
 toByte (some r) = r
 
+unfoldable pub rateBytes : List ℕ → List ℕ
+rateBytes rates = map (λ r. toByte (some r)) rates
+
 unfoldable pub fromByte : ℕ → Option ℕ
 fromByte x = cond (eqb x noRate) none (some x)
 

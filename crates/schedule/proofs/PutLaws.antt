@@ -13,7 +13,7 @@ use lib.ListN.{length, take, drop, length-take}
 use lib.Seq.{sets}
 use borrow.Author.Tests.{eqb-true}
 use Rattle.rules.specs.Calendar.{firstSlot, monthOfSlot, slotCount}
-use Rattle.rules.specs.Store.{storeLength, blockCount, blockLength}
+use Rattle.rules.specs.Store.{storeLength, rateBytes, blockCount, blockLength}
 use Rattle.calendar.proofs.Laws.{first-slot-step, days-range}
 use Rattle.pool.specs.Blocks.{isFree, freeCount, given, findOf, takeOf}
 use Rattle.pool.specs.declared.Pool.{Pool}
@@ -65,7 +65,7 @@ module _ (p : Pool) (m : ℕ) (l : List ℕ) where
   open-new e = ap (λ f. openBy f m (storedOf p l)) (sym e)
 
 module _ (p : Pool) (q : Piece) (l : List ℕ) where
-  pub lay-found : (b : ℕ) (after : List ℕ) → findOf p (q .month) ≡ At b → after ≡ sets l (place b (q .from)) (q .rates) → storedOf p after ≡ layPiece q (storedOf p l)
+  pub lay-found : (b : ℕ) (after : List ℕ) → findOf p (q .month) ≡ At b → after ≡ sets l (place b (q .from)) (rateBytes (q .rates)) → storedOf p after ≡ layPiece q (storedOf p l)
   unfolding layPiece
   lay-found b after e f = ap (storedOf p) f ∙ ap (λ x. layBy x q (storedOf p l)) (sym e)
 

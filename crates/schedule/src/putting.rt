@@ -3,12 +3,13 @@ ghost use mathlib.Core.Path.{_≡_};
 ghost use Prim.Native.Nat.{_+_, _^_, _≤_, _<_};
 ghost use lib.ListN.{length, replicate};
 ghost use Rattle.rules.specs.Calendar.{monthCount};
-ghost use Rattle.rules.specs.Store.{blockLength, storeLength, noRate};
+ghost use Rattle.rules.specs.Store.{blockLength, storeLength, noRate, rateBytes};
 ghost use Rattle.schedule.specs.Stored.{openBy, openMonth, layPiece, putPiece, pieceIn, putRun};
 ghost use Rattle.schedule.specs.Rates.{storedOf, pieceOf, canPutCount};
 use crate::layout::SLOT_COUNT;
 use crate::numbers::greater;
 use crate::numbers::lesser;
+use crate::rates::byte_of;
 use pool::Found;
 use pool::Place;
 use pool::Pool;
@@ -27,14 +28,14 @@ fn blank(to: &mut [u8])
     }
 }
 
-// Copies a whole slice.
-fn copy(to: &mut [u8], from: &[u8])
-    requires { ⌜ length (now to) ≡ length (now from) ⌝ }
-    ensures { λ _. ⌜ now (to .exit) ≡ now (from .entry) ⌝ }
+// Fills a whole slice with the bytes of rates.
+fn lay(to: &mut [u8], rates: &[u8])
+    requires { ⌜ length (now to) ≡ length (now rates) ⌝ }
+    ensures { λ _. ⌜ now (to .exit) ≡ rateBytes (now (rates .entry)) ⌝ }
 {
     let mut i = 0;
-    while i < from.len() {
-        to[i] = from[i];
+    while i < rates.len() {
+        to[i] = byte_of(rates[i]);
         i += 1;
     }
 }
@@ -77,7 +78,7 @@ fn lay_piece(pool: Pool, month: u16, from: usize, rates: &[u8], store: &mut [u8]
         Found::At(b) => {
             let at = b * BLOCK_LENGTH + from;
             let end = at + rates.len();
-            copy(&mut store[at..end], rates)
+            lay(&mut store[at..end], rates)
         }
         Found::Nothing => {}
     }

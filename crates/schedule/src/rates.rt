@@ -1,7 +1,8 @@
-// The rate of a slot: the byte of its month's block.
+// A rate and its byte, and the rate of a slot: the byte of its month's block.
 ghost use mathlib.Core.Path.{_≡_};
+ghost use mathlib.Core.Option.{some};
 ghost use lib.ListN.{getD};
-ghost use Rattle.rules.specs.Store.{noRate, fromByte};
+ghost use Rattle.rules.specs.Store.{noRate, toByte, fromByte};
 ghost use Rattle.schedule.specs.Stored.{storedRate};
 ghost use Rattle.schedule.specs.Rates.{rateOption};
 use pool::Found;
@@ -13,6 +14,13 @@ use rules::NO_RATE;
 pub enum StoredRate {
     Rate(u8),
     NoRate,
+}
+
+// A rate as a byte of the store.
+pub fn byte_of(rate: u8) -> u8
+    ensures { λ r. ⌜ r ≡ toByte (some rate) ⌝ }
+{
+    rate
 }
 
 // A byte of the store as a rate.

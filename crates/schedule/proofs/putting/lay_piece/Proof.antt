@@ -12,7 +12,7 @@ use Rattle.pool.specs.Blocks.{findOf}
 use Rattle.pool.specs.declared.Found.the-variants.{At}
 use Rattle.schedule.specs.Rates.{pieceOf}
 use Rattle.schedule.proofs.Parts.{put-part}
-use Rattle.schedule.proofs.RateLaws.{find-below}
+use Rattle.schedule.proofs.RateLaws.{find-below, bytes-length}
 use Rattle.schedule.proofs.PutLaws.{lay-found, lay-nothing}
 use Rattle.schedule.proofs.putting.lay_piece.Statement.{statement}
 use Rattle.schedule.proofs.putting.lay_piece.Tie as tie
@@ -39,17 +39,17 @@ add-at c = omega (arith, below c)
 add-end : tie.Need-add-end
 add-end c = omega (arith, below c)
 
-sub-copy : tie.Need-sub-copy
-sub-copy c = search needs
+sub-lay : tie.Need-sub-lay
+sub-lay c = search needs
 
-part-copy-start : tie.Need-part-copy-start
-part-copy-start c = search needs
+part-lay-start : tie.Need-part-lay-start
+part-lay-start c = search needs
 
-part-copy-end : tie.Need-part-copy-end
-part-copy-end c = omega (arith, below c)
+part-lay-end : tie.Need-part-lay-end
+part-lay-end c = omega (arith, below c)
 
-copy-requires : tie.Need-copy-requires
-copy-requires c κs = search needs
+lay-requires : tie.Need-lay-requires
+lay-requires c κs = search needs
 
 enum-told : tie.Need-enum-told
 enum-told c = search needs
@@ -63,10 +63,10 @@ returns c =
     let pre = c .before .before .before .before .before .before .before .before .before .before .pre in
     let k = c .before .before .before .before in
     let b = k .before .b .given .0 .0 in
-    let y = c .before .before .copy in
+    let y = c .before .before .lay in
     let room : b * blockLength + a .from + length (now (a .rates)) ≤ length (now (a .store)) = omega (arith, below k, pre) in
     lay-found (a .pool) (pieceOf (a .month) (a .from) (now (a .rates))) (now (a .store)) b _ (at k)
-    (put-part (now (a .store)) (y .last .0) (b * blockLength + a .from) (length (now (a .rates))) (ap length (y .ensures)) room
+    (put-part (now (a .store)) (y .last .0) (b * blockLength + a .from) (length (now (a .rates))) (ap length (y .ensures) ∙ bytes-length (now (a .rates))) room
     ∙ ap (λ (vs : List ℕ). sets (now (a .store)) (b * blockLength + a .from) vs) (y .ensures))
 
 returns-2 : tie.Need-returns-2
@@ -83,10 +83,10 @@ lay-piece-spec =
     mul-at
     add-at
     add-end
-    sub-copy
-    part-copy-start
-    part-copy-end
-    copy-requires
+    sub-lay
+    part-lay-start
+    part-lay-end
+    lay-requires
     enum-told
     same-length
     returns
