@@ -8,9 +8,10 @@ use Prim.Native.Nat.{ℕ, _+_, _-_, _≤_}
 use native.Mathlib.Omega.{arith}
 use lib.Dec.{leb, ltb}
 use lib.ListN.{length, getD}
-use Rattle.rules.specs.Calendar.{firstSlot, slotsOfMonth}
+use Rattle.rules.specs.Calendar.{firstSlot, slotsOfMonth, lastMonth, monthCount}
 use Rattle.rules.specs.Body.{Record}
 use Rattle.rules.specs.File.{File, recordsIn, startOf}
+use Rattle.rules.specs.Store.{blockCount}
 use Rattle.rules.specs.Machine.{Machine, covers, rateIn, orElse, lastRate, touches, anyRecord, anyFile, isHeld, countBelow, withFile}
 use Rattle.schedule.specs.Stored.{Stored, putRun}
 use Rattle.about_store.specs.Agrees.{rateAt}
@@ -101,7 +102,7 @@ module _ (f : File) (M : Machine) where
       table true false false = refl
       table false x y = refl
 
-  says-with : M .floor ≤ 1199 → (k i : ℕ)
+  says-with : M .floor ≤ lastMonth → (k i : ℕ)
       → rateAt (withFile f M) k i ≡ cond (leb (M .floor) k && ltb i (slotsOfMonth k)) (orElse (rateIn (firstSlot k + i) (recordsIn (f .body))) (rateAt M k i)) (rateAt M k i)
   unfolding withFile
   says-with low k i =
@@ -114,7 +115,7 @@ module _ (f : File) (M : Machine) where
       go false n o = refl
 
 -- a file taken, as the machine sees it, is its records put in order
-pub view-file : (t : ℕ) (f : File) (M : Machine) → M .floor ≤ 1199 → RunFrom t (recordsIn (f .body)) → viewOf (withFile f M) ≡ recordsView (recordsIn (f .body)) (viewOf M)
+pub view-file : (t : ℕ) (f : File) (M : Machine) → M .floor ≤ lastMonth → RunFrom t (recordsIn (f .body)) → viewOf (withFile f M) ≡ recordsView (recordsIn (f .body)) (viewOf M)
 view-file t f M low g = λ j. record { floor = same-floor j; held = λ k. same-held k j; says = λ k i. same-says k i j }
   where
     rs : List Record
@@ -134,13 +135,13 @@ view-file t f M low g = λ j. record { floor = same-floor j; held = λ k. same-h
 record-more : (rs : List Record) (v : View) (k : ℕ) → v .held k ≡ true → recordsView rs v .held k ≡ true
 record-more rs v k e = records-held rs v k ∙ rw e (or-true (leb (v .floor) k && anyRecord k rs))
 
-pub records-shows : (t : ℕ) (rs : List Record) → RunFrom t rs → (st : Stored) (v : View) → Shows st v → countBelow 1200 (recordsView rs v .held) ≤ 16
+pub records-shows : (t : ℕ) (rs : List Record) → RunFrom t rs → (st : Stored) (v : View) → Shows st v → countBelow monthCount (recordsView rs v .held) ≤ blockCount
     → Shows (putRecords (v .floor) rs st) (recordsView rs v)
 unfolding recordsView putRecords runView
 records-shows t [] g st v h few = h
 records-shows t (r ∷ rs) g st v h few =
     let w = runView (startOf r) (r .rates) v in
     let ok = g .1 in
-    let fewer = count-le 1200 (w .held) (recordsView rs w .held) (record-more rs w) in
+    let fewer = count-le monthCount (w .held) (recordsView rs w .held) (record-more rs w) in
     let one = run-shows (startOf r) (r .rates) (ok .begins) (ok .ends) (ok .near) v st h (omega arith) in
     records-shows (t + length (r .rates)) rs (g .2) (putRun (v .floor) (startOf r) (r .rates) st) w one few
