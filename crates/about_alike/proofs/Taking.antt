@@ -7,8 +7,10 @@ use mathlib.Core.Option.{some}
 use native.Mathlib.Omega.{arith}
 use lib.Dec.{ltb}
 use borrow.Author.Tests.{ltb-false}
+use Rattle.rules.specs.Calendar.{monthCount}
 use Rattle.rules.specs.Body.{Record}
 use Rattle.rules.specs.File.{File, Outcome as Read, refuse, file, takeFile, recordsIn}
+use Rattle.rules.specs.Store.{blockCount}
 use Rattle.rules.specs.Causes.{accepted, refused, numberOf}
 use Rattle.rules.specs.Machine.{fileTaken, takeBy, countBelow}
 use Rattle.rules.specs.declared.Cause.{Cause}
@@ -42,7 +44,7 @@ module _ (r : Beside) (v : View) (good : Good r) (plain : Plain v) (name body : 
 
     -- 14 applies
     abbrev isFull : Bool
-    isFull = ltb (16 - countBelow 1200 (v .held)) (lacking v rs run)
+    isFull = ltb (blockCount - countBelow monthCount (v .held)) (lacking v rs run)
 
     full-view : (st : Stored) → Shows st v → fullRow f (unitOf r v st) .applies ≡ isFull
     unfolding fullRow
@@ -88,7 +90,7 @@ module _ (r : Beside) (v : View) (good : Good r) (plain : Plain v) (name body : 
 
     put-shows : isFull ≡ false → (st : Stored) → Shows st v → Shows (putRecords (v .floor) rs st) (recordsView rs v)
     put-shows e st h =
-        let room = ltb-false (16 - countBelow 1200 (v .held)) (lacking v rs run) e in
+        let room = ltb-false (blockCount - countBelow monthCount (v .held)) (lacking v rs run) e in
         records-shows (runStart rs) rs run st v h (omega (arith, held-more v rs run, count-view st v h))
 
   pub take-outcome : Outcome (fileTaken name body) r v

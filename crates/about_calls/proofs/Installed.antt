@@ -5,8 +5,9 @@ use mathlib.Core.Bool.{Bool, true, false, cond, not, _&&_, false≢true}
 use mathlib.Core.List.{List, [], _∷_, map}
 use mathlib.Core.Logic.{_↔_}
 use native.Mathlib.Omega.{arith}
+use Rattle.pool.specs.Blocks.{allFree}
 use Rattle.rules.specs.Plant.{Settings, plantId, macAddress, validSettings, installing}
-use Rattle.rules.specs.Store.{freshValues}
+use Rattle.rules.specs.Store.{freshValues, blockCount}
 use Rattle.rules.specs.Causes.{Reply, refused, numberOf}
 use Rattle.rules.specs.Machine.{Call, freshMachine, replies as machineReplies, after as machineAfter}
 use Rattle.rules.specs.declared.Answer.{Answer}
@@ -107,7 +108,7 @@ every-list-installed id mac set e store cs =
     (sym (state-of id mac set e store))
     (every-list (plantOf id mac set) (valid-of id mac set e) store cs)
 
-all-free : allBelow 16 (bit 65535) ≡ true
+all-free : allBelow blockCount (bit allFree) ≡ true
 unfolding allBelow
 all-free = refl
 
@@ -120,7 +121,7 @@ fresh-values p = record {
   clock = refl;
   floor = refl;
   held = refl;
-  free = λ b l. all-at 16 (bit 65535) all-free b l;
+  free = λ b l. all-at blockCount (bit allFree) all-free b l;
   requests = refl;
   command = refl;
 }

@@ -6,7 +6,7 @@ use mathlib.Core.List.{List, []}
 use mathlib.Core.Option.{Option, none, some}
 use lib.Dec.{leb, ltb, eqb}
 use Rattle.rules.specs.Plant.{lastDigit}
-use Rattle.rules.specs.Calendar.{endOfTime, slotCount}
+use Rattle.rules.specs.Calendar.{endOfTime, slotCount, monthCount}
 use Rattle.rules.specs.Store.{storeLength, blockCount}
 use Rattle.rules.specs.Causes.{accepted}
 use Rattle.rules.specs.File.{File, Outcome, refuse, file, takeFile}
@@ -30,7 +30,7 @@ count-none (suc k) p h = rw (count-none k p h, h k) refl
 
 pub held-none : (M : Machine) → M .files ≡ [] → heldCount M ≡ 0
 unfolding heldCount
-held-none M e = count-none 1200 (isHeld M) (λ m. files-none M m e)
+held-none M e = count-none monthCount (isHeld M) (λ m. files-none M m e)
 
 module _ (w : Told) (M : Machine) where
   -- ---- due

@@ -11,7 +11,7 @@ use borrow.Author.Tests.{ltb-true, ltb-false}
 use Rattle.rules.specs.Name.{Name}
 use Rattle.rules.specs.Body.{Body}
 use Rattle.rules.specs.File.{File, Outcome, refuse, file, takeFile}
-use Rattle.rules.specs.Store.{Requests, soundStore}
+use Rattle.rules.specs.Store.{Requests, soundStore, blockCount}
 use Rattle.rules.specs.Causes.{Reply, refused, numberOf, ofDue, ofCeiling, ofCommand, ofFreeBlocks}
 use Rattle.rules.specs.Plant.{Settings, lastDigit}
 use Rattle.pool.specs.Blocks.{freeCount}
@@ -176,7 +176,7 @@ module _ (u : Unit) (store name body : List ℕ) where
       go true e = h d (ltb-true (numberOf d) 7 e)
       go false e = let x = ltb-false (numberOf d) 7 e in reads d (omega arith) (omega arith) ∙ g d l
 
-  full-row : (x : File) → Parsed name body x → f Cause.Full ≡ ltb 16 (together u x)
+  full-row : (x : File) → Parsed name body x → f Cause.Full ≡ ltb blockCount (together u x)
   unfolding applies
   full-row x p = ap (λ (o : Option Name). fullBreaks u o body) (p .nameIs) ∙ ap (λ (o : Option Body). crowds u (x .name) o) (p .bodyIs)
 

@@ -9,7 +9,7 @@ use lib.Dec.{leb, ltb, eqb}
 use lib.ListN.{length, getD}
 use borrow.Author.Tests.{eq-eqb, leb-true, leb-false, lt-ltb, le-ltb}
 use Rattle.rules.specs.Digits.{allAtMost, allDigits, digits}
-use Rattle.rules.specs.Calendar.{exists, startSlot}
+use Rattle.rules.specs.Calendar.{exists, startSlot, endOfTime}
 use Rattle.rules.specs.Name.{Name, lawfulName, segmentFits, segmentDigit}
 use Rattle.rules.specs.Body.{Body, schedule, registration, formOfRecord, formOfBody, every}
 use Rattle.rules.specs.File.{File, Outcome, refuse, file, takeFile, lawful, idFits, datesHold, ratesHold, checksumsHold, plantsHold, recordDates, updateDates, inTime, recordsIn, flagOf, nextAccess}
@@ -73,7 +73,7 @@ flag-low (schedule (r ∷ rs)) e =
     byte-low 9 (r .flag) 0 (both (eqb (length (r .flag)) 1) (allDigits (r .flag)) (d .1) .1)
 
 -- its next access
-next-low : (n : Name) (b : Body) → n .format ≡ F203 → datesHold n b ≡ true → nextAccess (recordsIn b) < 3155760000
+next-low : (n : Name) (b : Body) → n .format ≡ F203 → datesHold n b ≡ true → nextAccess (recordsIn b) < endOfTime
 unfolding datesHold every updateDates
 next-low n (registration plant result) f e = omega arith
 next-low n (schedule []) f e = omega arith
@@ -190,7 +190,7 @@ module _ (p : Plant) (valid : validPlant p ≡ true) (n : ℕ) (s : State) (M : 
           sim-by p n _ _ _ _
           (unit.take-done s (full p valid n s M h l) (good p valid n s M h) (bytes p valid n s M h l) (ap isUnset c) name body f (ap (λ (q : Plant). takeFile (q .id) name body) (h .plant) ∙ e) (full-same l f e ∙ ap not g))
           (machine.take-done (w p valid n) M name body (eq-eqb n storeLength l) t (clock-some p valid n s M h t c) f e g)
-          (refl, taken-follows l f e (leb-true (heldCount (machineWith f M)) 16 g))
+          (refl, taken-follows l f e (leb-true (heldCount (machineWith f M)) blockCount g))
 
       by-outcome : (l : n ≡ storeLength) (t : ℕ) → u .clock ≡ At t → (o : Outcome) → takeFile (p .id) name body ≡ o → T
       by-outcome l t c (refuse x) e =
