@@ -12,7 +12,7 @@ use borrow.Author.Tests.{ltb-true, ltb-false, leb-true, leb-false, lt-ltb, le-lt
 use Rattle.rules.specs.Digits.{digits, allAtMost}
 use Rattle.rules.specs.Plant.{plantId}
 use Rattle.rules.specs.Name.{formatOf, formatNumber}
-use Rattle.rules.specs.Body.{schedule, encodeBody}
+use Rattle.rules.specs.Body.{schedule, encodeBody, highestRate}
 use Rattle.rules.specs.File.{updateDates}
 use Rattle.rules.specs.Causes.{numberOf}
 use Rattle.rules.specs.Writer.{Fields, Output, refuse, bytes, need, flagFits, digitsFit, updateRecord, monthsFit, fitting, writeAs, writeBody}
@@ -89,8 +89,8 @@ module _ (w : Fields) (room : ℕ) where
       (need (not (roomBreaks w room)) Cause.Buffer (bytes (bodyFor w))))))
 
   rest-with : (n d t : Bool) {b : List ℕ} → not (formatBreaks w) ≡ n → not (digitsBreak w) ≡ d → not (datesBreak w) ≡ t → bodyFor w ≡ b
-      → rest ≡ need n Cause.Name (need d Cause.Form (need t Cause.Date (need (allAtMost 100 (w .rates)) Cause.Rate (fitting room b))))
-  rest-with n d t {b} e₁ e₂ e₃ e₄ = rw (e₁, e₂, e₃, Bool·not-not (allAtMost 100 (w .rates)), e₄, room-is b) refl
+      → rest ≡ need n Cause.Name (need d Cause.Form (need t Cause.Date (need (allAtMost highestRate (w .rates)) Cause.Rate (fitting room b))))
+  rest-with n d t {b} e₁ e₂ e₃ e₄ = rw (e₁, e₂, e₃, Bool·not-not (allAtMost highestRate (w .rates)), e₄, room-is b) refl
 
   -- which of the three formats the number is
   record Number (x y z : Bool) : Type 0 where

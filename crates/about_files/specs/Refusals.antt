@@ -11,7 +11,7 @@ use lib.Dec.{ltb, eqb}
 use Rattle.rules.specs.Digits.{digits, allAtMost}
 use Rattle.rules.specs.Plant.{plantId}
 use Rattle.rules.specs.Name.{formatOf}
-use Rattle.rules.specs.Body.{Record, schedule, encodeBody}
+use Rattle.rules.specs.Body.{Record, schedule, encodeBody, highestRate}
 use Rattle.rules.specs.File.{updateDates}
 use Rattle.rules.specs.Causes.{numberOf}
 use Rattle.rules.specs.Writer.{Fields, refuse, bytes, updateRecord, fieldRecords, monthsFit, writeBody}
@@ -53,7 +53,7 @@ datesBreak w =
 
 -- 11: 'rate above 100'
 abbrev pub rateBreaks : Fields → Bool
-rateBreaks w = not (allAtMost 100 (w .rates))
+rateBreaks w = not (allAtMost highestRate (w .rates))
 
 -- the records of the fields, and the body's bytes
 abbrev pub recordsFor : Option Format → Fields → List Record

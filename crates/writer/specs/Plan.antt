@@ -9,7 +9,7 @@ use Rattle.rules.specs.Digits.{digits, allAtMost}
 use Rattle.rules.specs.Calendar.{monthAt, startSlot, exists, wholeMinute}
 use Rattle.rules.specs.Plant.{plantId}
 use Rattle.rules.specs.Name.{formatOf}
-use Rattle.rules.specs.Body.{schedule, encodeBody}
+use Rattle.rules.specs.Body.{schedule, encodeBody, highestRate}
 use Rattle.rules.specs.File.{inTime, monthBegins}
 use Rattle.rules.specs.Writer.{Fields, Output, refuse, fitting, monthRecords, updateRecord, flagFits, monthsFit}
 use Rattle.rules.specs.declared.Cause.{Cause}
@@ -38,7 +38,7 @@ unfoldable pub monthsPlan : ℕ → List ℕ → List ℕ → List ℕ → Plan
 monthsPlan k ident start rates =
     needed (digits 10 ident && digits 12 start) Cause.Form
     (needed (monthsFit k (fieldsOf 0 [] ident start [] rates 0)) Cause.Date
-    (needed (allAtMost 100 rates) Cause.Rate
+    (needed (allAtMost highestRate rates) Cause.Rate
     (Months (monthAt start) (monthAt start + k))))
 
 -- whether an update's n rates and its next access stand before the end of 2099
@@ -50,7 +50,7 @@ unfoldable pub updatePlan : List ℕ → List ℕ → List ℕ → List ℕ → 
 updatePlan ident start next rates =
     needed (digits 10 ident && digits 12 start && (digits 14 next && leb (length rates) 336)) Cause.Form
     (needed (updateDated start next (length rates)) Cause.Date
-    (needed (allAtMost 100 rates) Cause.Rate Update))
+    (needed (allAtMost highestRate rates) Cause.Rate Update))
 
 abbrev pub planAs : Fields → Option Format → Plan
 planAs w none = Refused Cause.Name
