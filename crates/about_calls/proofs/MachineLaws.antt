@@ -113,7 +113,7 @@ module _ (w : Told) (M : Machine) where
 
   module _ (name body : List ℕ) where
     abbrev outcome : ℕ → Step
-    outcome t = takeOutcome (takeFile (w .plant) name body) M
+    outcome t = takeOutcome t (takeFile (w .plant) name body) M
 
     pub take-length : eqb (w .storeLength) storeLength ≡ false → step w (fileTaken name body) M ≡ refusal Cause.StoreLength M
     unfolding step
@@ -128,14 +128,14 @@ module _ (w : Told) (M : Machine) where
       take-unset e = lent-take none e
 
       pub take-refused : (t : ℕ) → M .clock ≡ some t → (c : Cause) → takeFile (w .plant) name body ≡ refuse c → step w (fileTaken name body) M ≡ refusal c M
-      take-refused t e c f = lent-take (some t) e ∙ ap (λ (x : Outcome). takeOutcome x M) f
+      take-refused t e c f = lent-take (some t) e ∙ ap (λ (x : Outcome). takeOutcome t x M) f
 
-      pub take-full : (t : ℕ) → M .clock ≡ some t → (f : File) → takeFile (w .plant) name body ≡ file f → leb (heldCount (withFile f M)) blockCount ≡ false
+      pub take-full : (t : ℕ) → M .clock ≡ some t → (f : File) → takeFile (w .plant) name body ≡ file f → leb (heldCount (withFile t f M)) blockCount ≡ false
           → step w (fileTaken name body) M ≡ refusal Cause.Full M
       take-full t e f g k =
-          lent-take (some t) e ∙ ap (λ (x : Outcome). takeOutcome x M) g ∙ ap (λ (b : Bool). check b Cause.Full (accepted, withFile f M) M) k
+          lent-take (some t) e ∙ ap (λ (x : Outcome). takeOutcome t x M) g ∙ ap (λ (b : Bool). check b Cause.Full (accepted, withFile t f M) M) k
 
-      pub take-done : (t : ℕ) → M .clock ≡ some t → (f : File) → takeFile (w .plant) name body ≡ file f → leb (heldCount (withFile f M)) blockCount ≡ true
-          → step w (fileTaken name body) M ≡ (accepted, withFile f M)
+      pub take-done : (t : ℕ) → M .clock ≡ some t → (f : File) → takeFile (w .plant) name body ≡ file f → leb (heldCount (withFile t f M)) blockCount ≡ true
+          → step w (fileTaken name body) M ≡ (accepted, withFile t f M)
       take-done t e f g k =
-          lent-take (some t) e ∙ ap (λ (x : Outcome). takeOutcome x M) g ∙ ap (λ (b : Bool). check b Cause.Full (accepted, withFile f M) M) k
+          lent-take (some t) e ∙ ap (λ (x : Outcome). takeOutcome t x M) g ∙ ap (λ (b : Bool). check b Cause.Full (accepted, withFile t f M) M) k

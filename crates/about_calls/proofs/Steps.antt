@@ -75,7 +75,7 @@ module _ (p : Plant) (valid : validPlant p ≡ true) (n : ℕ) where
     pub clock-some : (t : ℕ) → u .clock ≡ At t → M .clock ≡ some t
     clock-some t e = sym (h .clock) ∙ ap clockOf e
 
-    time-below : (t : ℕ) → u .clock ≡ At t → t < endOfTime
+    pub time-below : (t : ℕ) → u .clock ≡ At t → t < endOfTime
     time-below t e = ltb-true t endOfTime (ap soundClock (sym (clock-some t e)) ∙ h .time)
 
     digit-same : lastDigit (p .id) ≡ lastDigit (u .plant .id)

@@ -60,19 +60,19 @@ module _ (st : Stored) (M : Machine) (a : Agrees st M) where
   -- ---- whether a file fits
 
   -- the months that the machine holds with the file are those that it held and those that have no block yet
-  held-with-file : (f : File) → GoodFile f
-      → heldCount (withFile f M) ≡ heldCount M + missing (st .pool) (M .floor) (runStart (recordsIn (f .body))) (runLength (recordsIn (f .body)))
+  held-with-file : (c : ℕ) (f : File) → GoodFile f
+      → heldCount (withFile c f M) ≡ heldCount M + missing (st .pool) (M .floor) (runStart (recordsIn (f .body))) (runLength (recordsIn (f .body)))
   unfolding heldCount
-  held-with-file f g =
+  held-with-file c f g =
       let rs = recordsIn (f .body) in
-      ap (λ (w : View). countBelow monthCount (w .held)) (view-file (runStart rs) f M (a .floor) g)
+      ap (λ (w : View). countBelow monthCount (w .held)) (view-file (runStart rs) c f M (a .floor) g)
       ∙ held-more (viewOf M) rs g
       ∙ ap (λ (n : ℕ). countBelow monthCount (isHeld M) + n) (sym (missing-view (viewOf M) rs g (agrees-plain st M a) st (agrees-shows st M a)))
 
   -- there are blocks for a file's months exactly where the machine holds no more months than blocks with it
-  pub room : (f : File) → GoodFile f
-      → leb (missing (st .pool) (M .floor) (runStart (recordsIn (f .body))) (runLength (recordsIn (f .body)))) (freeCount (st .pool)) ≡ leb (heldCount (withFile f M)) blockCount
-  room f g = rw (held-with-file f g) (go (missing (st .pool) (M .floor) (runStart (recordsIn (f .body))) (runLength (recordsIn (f .body)))) (freeCount (st .pool)) (heldCount M) free-and-held)
+  pub room : (c : ℕ) (f : File) → GoodFile f
+      → leb (missing (st .pool) (M .floor) (runStart (recordsIn (f .body))) (runLength (recordsIn (f .body)))) (freeCount (st .pool)) ≡ leb (heldCount (withFile c f M)) blockCount
+  room c f g = rw (held-with-file c f g) (go (missing (st .pool) (M .floor) (runStart (recordsIn (f .body))) (runLength (recordsIn (f .body)))) (freeCount (st .pool)) (heldCount M) free-and-held)
     where
       go : (n c h : ℕ) → c + h ≡ blockCount → leb n c ≡ leb (h + n) blockCount
       go n c h e = same (λ q. le-leb (h + n) blockCount (omega (arith, leb-true n c q))) (λ q. le-leb n c (omega (arith, leb-true (h + n) blockCount q)))

@@ -86,12 +86,12 @@ records-says t (r ∷ rs) g v k i =
 abbrev pub viewOf : Machine → View
 viewOf M = record { floor = M .floor; held = isHeld M; says = rateAt M }
 
-module _ (f : File) (M : Machine) where
-  pub floor-with : withFile f M .floor ≡ M .floor
+module _ (c : ℕ) (f : File) (M : Machine) where
+  pub floor-with : withFile c f M .floor ≡ M .floor
   unfolding withFile
   floor-with = refl
 
-  pub held-with : (k : ℕ) → isHeld (withFile f M) k ≡ (leb (M .floor) k && anyRecord k (recordsIn (f .body)) || isHeld M k)
+  pub held-with : (k : ℕ) → isHeld (withFile c f M) k ≡ (leb (M .floor) k && anyRecord k (recordsIn (f .body)) || isHeld M k)
   unfolding withFile isHeld
   held-with k = rw (any-more k (M .files) f) (table (leb (M .floor) k) (anyFile k (M .files)) (anyRecord k (recordsIn (f .body))))
     where
@@ -103,10 +103,10 @@ module _ (f : File) (M : Machine) where
       table false x y = refl
 
   says-with : M .floor ≤ lastMonth → (k i : ℕ)
-      → rateAt (withFile f M) k i ≡ cond (leb (M .floor) k && ltb i (slotsOfMonth k)) (orElse (rateIn (firstSlot k + i) (recordsIn (f .body))) (rateAt M k i)) (rateAt M k i)
+      → rateAt (withFile c f M) k i ≡ cond (leb (M .floor) k && ltb i (slotsOfMonth k)) (orElse (rateIn (firstSlot k + i) (recordsIn (f .body))) (rateAt M k i)) (rateAt M k i)
   unfolding withFile
   says-with low k i =
-      rate-at (withFile f M) low k i
+      rate-at (withFile c f M) low k i
       ∙ rw (last-more (firstSlot k + i) (M .files) f none, rate-at M low k i)
       (go (leb (M .floor) k && ltb i (slotsOfMonth k)) (rateIn (firstSlot k + i) (recordsIn (f .body))) (lastRate (firstSlot k + i) (M .files) none))
     where
@@ -115,20 +115,20 @@ module _ (f : File) (M : Machine) where
       go false n o = refl
 
 -- a file taken, as the machine sees it, is its records put in order
-pub view-file : (t : ℕ) (f : File) (M : Machine) → M .floor ≤ lastMonth → RunFrom t (recordsIn (f .body)) → viewOf (withFile f M) ≡ recordsView (recordsIn (f .body)) (viewOf M)
-view-file t f M low g = λ j. record { floor = same-floor j; held = λ k. same-held k j; says = λ k i. same-says k i j }
+pub view-file : (t c : ℕ) (f : File) (M : Machine) → M .floor ≤ lastMonth → RunFrom t (recordsIn (f .body)) → viewOf (withFile c f M) ≡ recordsView (recordsIn (f .body)) (viewOf M)
+view-file t c f M low g = λ j. record { floor = same-floor j; held = λ k. same-held k j; says = λ k i. same-says k i j }
   where
     rs : List Record
     rs = recordsIn (f .body)
 
-    same-floor : withFile f M .floor ≡ recordsView rs (viewOf M) .floor
-    same-floor = floor-with f M ∙ sym (records-floor rs (viewOf M))
+    same-floor : withFile c f M .floor ≡ recordsView rs (viewOf M) .floor
+    same-floor = floor-with c f M ∙ sym (records-floor rs (viewOf M))
 
-    same-held : (k : ℕ) → isHeld (withFile f M) k ≡ recordsView rs (viewOf M) .held k
-    same-held k = held-with f M k ∙ sym (records-held rs (viewOf M) k)
+    same-held : (k : ℕ) → isHeld (withFile c f M) k ≡ recordsView rs (viewOf M) .held k
+    same-held k = held-with c f M k ∙ sym (records-held rs (viewOf M) k)
 
-    same-says : (k i : ℕ) → rateAt (withFile f M) k i ≡ recordsView rs (viewOf M) .says k i
-    same-says k i = says-with f M low k i ∙ sym (records-says t rs g (viewOf M) k i)
+    same-says : (k i : ℕ) → rateAt (withFile c f M) k i ≡ recordsView rs (viewOf M) .says k i
+    same-says k i = says-with c f M low k i ∙ sym (records-says t rs g (viewOf M) k i)
 
 -- ---- pool and store
 

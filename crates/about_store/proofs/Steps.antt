@@ -142,9 +142,9 @@ same-files st M N ef ee a = record {
 -- ---- a file put
 
 -- no rate of a file that can be put is above 100
-low-with : (M : Machine) (f : File) → GoodFile f → ((s r : ℕ) → rateOf M s ≡ some r → r ≤ highestRate) → (s r : ℕ) → rateOf (withFile f M) s ≡ some r → r ≤ highestRate
+low-with : (c : ℕ) (M : Machine) (f : File) → GoodFile f → ((s r : ℕ) → rateOf M s ≡ some r → r ≤ highestRate) → (s r : ℕ) → rateOf (withFile c f M) s ≡ some r → r ≤ highestRate
 unfolding rateOf withFile
-low-with M f g low s r e =
+low-with c M f g low s r e =
     let rs = recordsIn (f .body) in
     let w = cond-some (ltb (monthOfSlot s) (M .floor)) (lastRate s (M .files ++ (f ∷ [])) none) r e in
     go (rateIn s rs) refl (sym (last-more s (M .files) f none) ∙ w .1) (w .0)
@@ -155,10 +155,10 @@ low-with M f g low s r e =
 
 pub put : PutAgrees
 unfolding heldCount
-put st M f g few a =
+put st M c f g few a =
     let rs = recordsIn (f .body) in
-    let v = view-file (runStart rs) f M (a .floor) g in
-    shows-agrees (putRecords (M .floor) rs st) (withFile f M)
+    let v = view-file (runStart rs) c f M (a .floor) g in
+    shows-agrees (putRecords (M .floor) rs st) (withFile c f M)
     (subst (λ (w : View). Shows (putRecords (M .floor) rs st) w) (sym v)
     (records-shows (runStart rs) rs g st (viewOf M) (agrees-shows st M a) (subst (λ (w : View). countBelow monthCount (w .held) ≤ blockCount) v few)))
-    (low-with M f g (a .rates))
+    (low-with c M f g (a .rates))

@@ -36,11 +36,11 @@ ReleaseAgrees =
     (st : Stored) (M N : Machine) (f : ℕ) → N .floor ≡ f → N .files ≡ M .files → M .floor ≤ f → f ≤ lastMonth
     → Agrees st M → Agrees (record { pool = releaseOf (st .pool) f; store = st .store }) N
 
--- a file is put whose months there is room for
+-- a file is put whose months there is room for, taken at any clock
 abbrev pub PutAgrees : Type 0
 PutAgrees =
-    (st : Stored) (M : Machine) (f : File) → GoodFile f → heldCount (withFile f M) ≤ blockCount
-    → Agrees st M → Agrees (putRecords (M .floor) (recordsIn (f .body)) st) (withFile f M)
+    (st : Stored) (M : Machine) (c : ℕ) (f : File) → GoodFile f → heldCount (withFile c f M) ≤ blockCount
+    → Agrees st M → Agrees (putRecords (M .floor) (recordsIn (f .body)) st) (withFile c f M)
 
 -- every file that is taken is such a file
 abbrev pub TakenGood : Type 0
@@ -63,9 +63,9 @@ HeldFew = (st : Stored) (M : Machine) → Agrees st M → heldCount M ≤ blockC
 -- whether there is room for a file's months: cause 14
 abbrev pub RoomAgrees : Type 0
 RoomAgrees =
-    (st : Stored) (M : Machine) → Agrees st M → (f : File) → GoodFile f
+    (st : Stored) (M : Machine) → Agrees st M → (c : ℕ) (f : File) → GoodFile f
     → leb (missing (st .pool) (M .floor) (runStart (recordsIn (f .body))) (runLength (recordsIn (f .body)))) (freeCount (st .pool))
-    ≡ leb (heldCount (withFile f M)) blockCount
+    ≡ leb (heldCount (withFile c f M)) blockCount
 
 -- ---- pool and store are sound, and say what the machine's files say
 

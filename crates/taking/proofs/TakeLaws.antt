@@ -24,7 +24,7 @@ use Rattle.polling.specs.Requests.{requestsOf, requestsFrom}
 use Rattle.polling.specs.declared.Requests.{Requests}
 use Rattle.unit.specs.Values.{isSound}
 use Rattle.unit.specs.Rows.{firstOf, isUnset}
-use Rattle.unit.specs.Calls.{refusal}
+use Rattle.unit.specs.Calls.{refusal, clockTime}
 use Rattle.taking.specs.Taken.{fullRow, withFile, takeOf, storeAfterTake}
 use Rattle.taking.specs.Taking.{Following, takeSummary, filed}
 use Rattle.unit.specs.declared.Unit.{Unit}
@@ -74,11 +74,11 @@ module _ (u : Unit) (store name body : List ℕ) where
 
           put : fullRow f u .applies ≡ false → (p : Pool) (after : List ℕ) (q : Requests)
               → storedOf p after ≡ putRecords (u .floor) (recordsIn (f .body)) (storedOf (u .pool) store)
-              → requestsOf q ≡ takeBy (f .name .format) (f .name) (recordsIn (f .body)) (requestsOf (u .requests))
+              → requestsOf q ≡ takeBy t (f .name .format) (f .name) (recordsIn (f .body)) (requestsOf (u .requests))
               → Takes (filed u p q) after
           unfolding takeOf storeAfterTake firstOf withFile
           put g p after q k h = (
-            rw (eq-eqb (length store) storeLength long, lent-row u store true long good, ap isUnset set, e, g, ← k, ← h) refl,
+            rw (eq-eqb (length store) storeLength long, lent-row u store true long good, ap isUnset set, e, g, ap clockTime set, ← k, ← h) refl,
             rw (eq-eqb (length store) storeLength long, lent-row u store true long good, ap isUnset set, e, g) (ap (λ (s : Stored). s .store) k),
           )
 
@@ -100,13 +100,13 @@ module _ (u : Unit) (store name body : List ℕ) where
 
             pub take-done : needed ≤ free → (p : Pool) (after : List ℕ) (q : Requests)
                 → storedOf p after ≡ putRecords (u .floor) (recordsFrom (x .format) (x .records) (take (length body - 6) (drop 6 body))) (storedOf (u .pool) store)
-                → requestsOf q ≡ takeSummary (x .format) x (requestsOf (u .requests))
+                → requestsOf q ≡ takeSummary t (x .format) x (requestsOf (u .requests))
                 → Takes (filed u p q) after
             take-done h p after q k m =
                 let r = read in
                 put (r .the-file) (r .is) (room false (le-ltb free needed h)) p after q
                 (k ∙ ap (λ (rs : List Record). putRecords (u .floor) rs (storedOf (u .pool) store)) (records-are _ _ _ (r .the-file) (r .is) x (r .summary)))
-                (m ∙ requests-are _ _ _ (r .the-file) (r .is) x (r .summary) (requestsOf (u .requests)))
+                (m ∙ requests-are _ _ _ (r .the-file) (r .is) x (r .summary) t (requestsOf (u .requests)))
 
 -- a body that is read has its count, and its records follow each other
 module _ (plant name body : List ℕ) (x : Summary) (got : readingOf (takeFile plant name body) ≡ Read x) where
