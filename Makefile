@@ -1,9 +1,13 @@
 # The commands of the README, and what stands beside them.
-.PHONY: demo lister test bench lists fuzz sizes libraries
+.PHONY: demo picture lister test bench lists fuzz sizes library
 
-# A turn of the fiscal year, replayed: each call with its answer.
+# A turn of the fiscal year, replayed: each call with its answer, as they are and in words.
 demo:
 	@scripts/demo
+
+# The README's pictures, drawn from replay's answers to that story.
+picture:
+	@scripts/picture
 
 # The lister on example 10 of document 01.
 lister:
@@ -15,23 +19,23 @@ test:
 
 # Times the library that firmware links beside safe Rust with fixed arrays; judges nothing. Calls between crates are inlined, so that
 # the library is called as C would call it.
-bench: libraries
+bench: library
 	@CARGO_PROFILE_RELEASE_LTO=thin CARGO_TARGET_DIR=$(CURDIR)/target/bench cargo run --quiet --release --offline --locked --manifest-path tests/Cargo.toml --features linked --bin bench
 
 # The long run of lists of calls: the library that firmware links beside the plain machine of document 01.
-lists: libraries
+lists: library
 	@CARGO_TARGET_DIR=$(CURDIR)/target/cargo cargo run --quiet --release --offline --locked --manifest-path tests/Cargo.toml --features linked --bin lists
 
 # Fuzzes the library against the second implementation: make fuzz TARGET=reading|calls SECONDS=60. No part of the gate.
 TARGET = all
 SECONDS = 60
-fuzz: libraries
+fuzz: library
 	@scripts/fuzz $(TARGET) $(SECONDS)
 
 # RAM, stack and code of the library that firmware links.
-sizes: libraries
+sizes: library
 	@scripts/sizes
 
-# The static libraries, proved and built.
-libraries:
-	@scripts/archive boundary && scripts/archive jagwelu
+# The library that firmware links, proved and built.
+library:
+	@scripts/archive

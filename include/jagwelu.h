@@ -135,7 +135,7 @@ struct jag_due_answer {
     uint32_t flag;
 };
 
-/* has_rate 1: rate in percent of the lesser capacity, percent of the inverter's; else all 0. */
+/* has_rate 1: rate in percent of the lesser capacity, percent of the inverter's; else all 0 but the cause. */
 struct jag_ceiling_answer {
     uint32_t cause;
     uint32_t has_rate;
@@ -143,7 +143,8 @@ struct jag_ceiling_answer {
     uint32_t percent;
 };
 
-/* What a file says: of all its records the count and the rates; of the first its start. All 0 where refused or not in the format. */
+/* What a file says: of all its records the count and the rates; of the first its start. 0 what the format does not have; all 0 but the cause
+ * where refused. */
 struct jag_file {
     uint32_t cause;
     uint32_t format;      /* 201 yearly, 202 monthly, 203 update, 301 registration */
@@ -165,7 +166,7 @@ struct jag_error {
 };
 
 /* Where in its body the fields of a record begin: schedule ID of 10 digits, plant ID of 26, start of 12, count rates, a flag digit,
- * checksum of 2 digits, next access of 14. A 201 or 202 has no flag and no next access: 0. All 0 where refused. */
+ * checksum of 2 digits, next access of 14. A 201 or 202 has no flag and no next access: 0. All 0 but the cause where refused. */
 struct jag_places {
     size_t schedule;
     size_t plant;

@@ -1,4 +1,4 @@
-//! Links the libraries under test, but only where the feature `linked` is on.
+//! Links the library under test, but only where the feature `linked` is on.
 
 use std::env;
 use std::path::Path;
@@ -11,9 +11,7 @@ fn main() {
     let package = env::var("CARGO_MANIFEST_DIR").expect("cargo sets the package folder");
     let folder = Path::new(&package).join("../target/staticlib");
     println!("cargo:rustc-link-search=native={}", folder.display());
-    for library in ["boundary", "jagwelu"] {
-        let archive = folder.join(format!("lib{library}.a"));
-        println!("cargo:rerun-if-changed={}", archive.display());
-        println!("cargo:rustc-link-lib=static={library}");
-    }
+    let archive = folder.join("libjagwelu.a");
+    println!("cargo:rerun-if-changed={}", archive.display());
+    println!("cargo:rustc-link-lib=static=jagwelu");
 }

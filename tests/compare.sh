@@ -1,5 +1,5 @@
 #!/usr/bin/env bash
-# Holds the proved library against the second implementation. Builds the static libraries, runs the tests that link them, shows what they
+# Holds the library that firmware links against the second implementation. Builds the static library, runs the tests, shows what they
 # print (counts by cause among it), and ends in `N passed, M failed`.
 set -u
 cd "$(dirname "$0")/.." || exit 1
@@ -14,9 +14,7 @@ finish() {
     exit
 }
 
-for library in boundary jagwelu; do
-    scripts/archive "$library" || finish 0 1
-done
+scripts/archive || finish 0 1
 
 CARGO_TARGET_DIR=$root/target/cargo cargo test --release --offline --locked --no-fail-fast \
     --manifest-path tests/Cargo.toml --features linked -- --test-threads=1 --nocapture 2>&1 | tee "$log"

@@ -46,7 +46,7 @@ mkdir -p target/c || exit 1
 for tool in gcc g++ valgrind python3; do
     expect "looking for $tool" have "$tool"
 done
-expect 'the static library' scripts/archive jagwelu
+expect 'the static library' scripts/archive
 expect 'the C program builds' build_c
 expect 'the C program prints what it should' prints target/c/firmware
 expect 'the C program as C++ builds' build_cpp

@@ -61,6 +61,14 @@ says_why 'a closed input' "$?"
 python3 tests/cut_input.py "$folder/example-10.input" "$lister" >"$folder/wrote" 2>"$folder/said"
 says_why 'an input that is cut' "$?"
 
+# files drawn at random, against the second implementation
+if CARGO_TARGET_DIR=$PWD/target/cargo cargo run --quiet --release --offline --locked --manifest-path tests/Cargo.toml --bin lister_lines -- "$lister" 1000; then
+    passed=$((passed + 1))
+else
+    echo 'FAILED: files drawn at random'
+    failed=$((failed + 1))
+fi
+
 # the input that `rt check` runs the lister on is example 10
 if cmp -s crates/lister/stdin "$folder/example-10.input"; then
     passed=$((passed + 1))

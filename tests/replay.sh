@@ -3,7 +3,9 @@
 set -u
 cd "$(dirname "$0")/.." || exit 1
 replay=target/bin/replay
-if ! scripts/program replay; then
+rust=target/cargo/release
+if ! scripts/program replay ||
+    ! CARGO_TARGET_DIR=$PWD/target/cargo cargo build --quiet --release --offline --locked --manifest-path tests/Cargo.toml --bins; then
     echo '0 passed, 1 failed'
     exit 1
 fi
@@ -22,17 +24,21 @@ same() {
     if [ "$2" -eq 0 ] && cmp -s "$folder/wrote" "$folder/$1.answers" && [ ! -s "$folder/said" ]; then
         passed=$((passed + 1))
     else
-        printf 'FAILED %s (status %d) %s\n' "$1" "$2" "$(head -c 200 "$folder/said")"
+        printf 'FAILED %s by %s (status %d) %s\n' "$1" "$program" "$2" "$(head -c 200 "$folder/said")"
         diff "$folder/wrote" "$folder/$1.answers" | head -n 4 | cut -c 1-300
         failed=$((failed + 1))
     fi
 }
 
+# the program, and the plain machine in Rust
 for input in "$folder"/*.input; do
     case=$(basename "$input" .input)
-    "$replay" <"$input" >"$folder/wrote" 2>"$folder/said"
-    same "$case" "$?"
+    for program in "$replay" "$rust/plain_replay"; do
+        "$program" <"$input" >"$folder/wrote" 2>"$folder/said"
+        same "$case" "$?"
+    done
 done
+program=$replay
 
 # from a pipe the input comes in parts, some of them short, and ends anywhere in a line
 for case in listed story longest-line line-too-long long-lines-in-a-row; do
@@ -68,7 +74,7 @@ python3 tests/cut_input.py "$folder/cut" "$replay" >"$folder/wrote" 2>"$folder/s
 says_why 'an input that is cut' "$?" $'accepted\naccepted'
 
 # lists of calls drawn at random, against the plain machine in Rust
-if CARGO_TARGET_DIR=$PWD/target/cargo cargo run --quiet --release --offline --locked --manifest-path tests/Cargo.toml --bin replay_lists -- "$replay" 400; then
+if "$rust/replay_lists" "$replay" 600; then
     passed=$((passed + 1))
 else
     echo 'FAILED: lists of calls drawn at random'
@@ -80,6 +86,15 @@ if cmp -s "$folder/story.written" story/fiscal_year.txt; then
     passed=$((passed + 1))
 else
     echo 'FAILED: story/fiscal_year.txt is not what scripts/story writes'
+    failed=$((failed + 1))
+fi
+
+# the words of the demo, and the pictures that scripts/picture draws
+if python3 -B tests/demo_words.py; then passed=$((passed + 1)); else failed=$((failed + 1)); fi
+if scripts/picture "$folder" && cmp "$folder/picture_day.svg" docs/picture_day.svg && cmp "$folder/picture_blocks.svg" docs/picture_blocks.svg; then
+    passed=$((passed + 1))
+else
+    echo 'FAILED: the pictures in docs/ are not those that scripts/picture draws'
     failed=$((failed + 1))
 fi
 

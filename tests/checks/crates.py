@@ -126,9 +126,10 @@ def proofs_of(statement):
 def imports(path):
     """The crates' own files that a file of definitions takes words from, and what of its imports is not understood."""
     files, unknown = set(), []
-    for used in re.findall(r"^use (Rattle·[^\s{]+?)\.?(?:\{|$)", bare(text_of(path)), re.M):
-        where = re.fullmatch(r"Rattle·(\w+?)(?:·specs)?\.specs\.(\S+)", used)
-        file = file_of(where.group(1), where.group(2).split(".")) if where else None
+    for used in re.findall(r"^(?:pub )?use (Rattle·[^\s{]+)", bare(text_of(path)), re.M):
+        where = re.fullmatch(r"Rattle·(\w+?)(?:·\w+)?\.(specs|proofs)\.(\S+?)\.?", used)
+        find = {"specs": file_of, "proofs": source_of}
+        file = find[where.group(2)](where.group(1), where.group(3).split(".")) if where else None
         if file:
             files.add(file)
         else:
@@ -140,15 +141,24 @@ def file_of(crate, words):
     """The file of a module: a file of specs/, or for a declared type the file of src/ that declares it."""
     if words[0] == "declared":
         kind = next((word for word in words[1:] if word[0].isupper()), "")
-        for path in sorted(glob.glob(f"crates/{crate}/src/*.rt")):
-            if re.search(rf"\b(?:struct|enum) {re.escape(kind)}\b", text_of(path)):
-                return path
-        return None
+        return source_with(crate, rf"\b(?:struct|enum) {re.escape(kind)}\b")
     for count in range(len(words), 0, -1):
         path = f"crates/{crate}/specs/{'/'.join(words[:count])}.antt"
         if os.path.exists(path):
             return path
     return None
+
+
+def source_of(crate, words):
+    """The file of src/ with the function whose contract is meant: `proofs.F` has its parameters, `proofs.F.Reads` what it says."""
+    name = words[-2] if words[-1] == "Reads" and len(words) > 1 else words[-1]
+    return source_with(crate, rf"\bfn {re.escape(name)}\b")
+
+
+def source_with(crate, pattern):
+    """The file of a crate's src/ that has that, None where there is none."""
+    found = (path for path in sorted(glob.glob(f"crates/{crate}/src/*.rt")) if re.search(pattern, text_of(path)))
+    return next(found, None)
 
 
 def closure(path):

@@ -1,6 +1,7 @@
-"""Holds README.md and docs/AUDIT.md to the source."""
+"""Holds README.md, docs/AUDIT.md and the header to the source."""
 import sys
 
+import header
 import listed
 import quotes
 import reading
@@ -9,7 +10,7 @@ from report import end
 
 
 def checks():
-    return [result for part in (listed, quotes, statements, reading) for result in part.checks()]
+    return [result for part in (listed, header, quotes, statements, reading) for result in part.checks()]
 
 
 if __name__ == "__main__":

@@ -11,14 +11,14 @@ from crates import text_of
 from report import end
 
 FILES = {
-    "crates.txt": "small:\nuser: small\n",
+    "crates.txt": "small:\nuser: small\njagwelu:\n",
     "README.md": """# Small
 
 ## The crates
 
 | Crate | What it is |
 |---|---|
-| `small`, `user` | all |
+| `small`, `user`, `jagwelu` | all |
 
 ## What is proved
 
@@ -84,6 +84,8 @@ same-zero = refl
     "target/must-fail/small/pair/.log": "/r/small/pair/proofs/Law.antt:7:10: error: `both`: expected type x\nlogic=not-proved\n",
     "target/must-fail/small/zero/.log": "/r/small/zero/specs/Law.antt:9:3: error: `same-zero`: expected type x\nlogic=not-proved\n",
     "target/must-fail/user/f/.log": "fn user::f: not proved\nlogic=not-proved\n",
+    "crates/jagwelu/src/lib.rt": '#[no_mangle]\npub extern "C" fn jag_one(unit: HeldUnit, store: &[u8]) -> Handed {}\n',
+    "include/jagwelu.h": "/* uint32_t jag_two(void); */\nstruct jag_done jag_one(struct jag_unit unit, const uint8_t *store,\n    size_t store_length);\n",
     "crates/user/src/lib.rt": "pub fn f() {}\n",
     "crates/user/must-fail/f.edit": "file: src/lib.rt\nold: {}\nnew: { f() }\n",
 }
@@ -93,6 +95,8 @@ PROOF = "crates/small/proofs/Law.antt"
 EDIT = "crates/small/must-fail/same.edit"
 LOG = "target/must-fail/small/same/.log"
 ROW = "| `crates/small/specs/Words.antt` | what one of x is |\n"
+HEADER = "include/jagwelu.h"
+EXPORTS = "crates/jagwelu/src/lib.rt"
 
 # What is spoilt, a word of the failure, and the changes: pairs of file and new text, None for a file removed, or (old, new) within it.
 TRIALS = [
@@ -102,6 +106,7 @@ TRIALS = [
     ("a type without a proof under it", "Same has no proof", [(PROOF, ("same x = refl\n", ""))]),
     ("a statement of the same name in the proofs", "Same has no proof", [(PROOF, ("Law.{Same, Both}", "Law.{Both}"))]),
     ("a proof in a comment", "Same has no proof", [(PROOF, ("pub same : Same\nsame x", "-- pub same : Same\n-- same x"))]),
+    ("a proof in a comment in braces", "has a comment in braces", [(PROOF, ("pub same : Same\nsame x = refl\n", "{-\npub same : Same\nsame x = refl\n-}\n"))]),
     ("a file of proofs that is not declared", "does not declare", [("crates/small/proofs/Lib.antt", "")]),
     ("a statement in a file of proofs that is not declared", "Same has no proof", [("crates/small/proofs/Lib.antt", "-- pub mod Law\n")]),
     ("a file of proofs that is gone, and its line", "Same has no proof", [("crates/small/proofs/Lib.antt", ""), (PROOF, None)]),
@@ -114,6 +119,11 @@ TRIALS = [
     ("an edit that does not name its statement", "Same has no edit", [(EDIT, ("# Same:", "# Sameness:"))]),
     ("an edit of another file", "Same has no edit", [(EDIT, ("Law.antt\nold: one x ≡ one x", "Words.antt\nold: one x = x"))]),
     ("an edit of another definition", "Same has no edit", [(EDIT, ("old: one x ≡ one x", "old: Other = one 0"))]),
+    (
+        "a step that the README names and that has no edit",
+        "Step has no edit",
+        [("crates/unit/specs/Law.antt", "abbrev pub Step : Type 0\nStep = (x : N) → x ≡ x\n"), ("README.md", (" And `Both`.", " And `Both`, `Step`."))],
+    ),
     ("a law that is not there", "same-zeroes is in none", [("README.md", ("`same-zero`", "`same-zeroes`"))]),
     ("a law without an edit", "same-zero has no edit", [("crates/small/must-fail/zero.edit", None)]),
     ("a file missing from the reading list", "come from crates/small/specs/Words.antt", [("docs/AUDIT.md", (ROW, ""))]),
@@ -121,12 +131,30 @@ TRIALS = [
     ("a file listed twice", "twice", [("docs/AUDIT.md", (ROW, ROW + ROW))]),
     ("a file listed that is not there", "is not there", [("docs/AUDIT.md", (ROW, ROW + ROW.replace("Words", "Gone")))]),
     ("a type's file missing from the list", "come from crates/small/src/lib.rt", [("docs/AUDIT.md", ("| `crates/small/src/lib.rt`", "| `README.md`"))]),
+    (
+        "a file missing for a statement that is named and not quoted",
+        "the words of Third come from crates/small/specs/More.antt",
+        [("crates/small/specs/More.antt", "abbrev pub Third : Type 0\nThird = (x : N) → x ≡ x\n"), ("docs/AUDIT.md", ("# Audit", "# Audit\n\n`Third`"))],
+    ),
+    (
+        "a contract's file missing from the list",
+        "come from crates/user/src/lib.rt",
+        [(LAW, ("use Rattle.small", "use Rattle.user.proofs.f.Reads as f\nuse Rattle.small"))],
+    ),
+    ("a contract that is not found", "is not found", [(LAW, ("use Rattle.small", "use Rattle.user.proofs.g.Reads as g\nuse Rattle.small"))]),
+    ("an import as another name that is not found", "is not found", [(LAW, ("use Rattle.small", "use Rattle.small.specs.Gone as gone\nuse Rattle.small"))]),
     ("an import that is not found", "is not found", [(LAW, ("use Rattle.small", "use Rattle.small.specs.Gone.{two}\nuse Rattle.small"))]),
     ("a quote that is not in the source", "has not: abbrev", [("docs/AUDIT.md", ("one x ≡ one x", "one x ≡ x"))]),
     ("a proof named that is not there", "has no same-as", [("docs/AUDIT.md", ("`same`", "`same-as`"))]),
     ("no quote", "quotes no statement", [("docs/AUDIT.md", ("    abbrev pub Same", "    (abbrev pub Same"))]),
     ("a crate that the README leaves out", "crate user is not in the table", [("README.md", (", `user`", ""))]),
     ("a crate that crates.txt leaves out", "crate user is not in crates.txt", [("crates.txt", "small:\n")]),
+    ("a buffer that is written and const in the header", "the source `struct jag_done jag_one(struct jag_unit unit, uint8_t", [(EXPORTS, ("&[u8]", "&mut [u8]"))]),
+    ("a buffer that is read and not const in the header", "has `struct jag_done jag_one(struct jag_unit unit, uint8_t", [(HEADER, ("const ", ""))]),
+    ("parameters in another order", "jag_one(const uint8_t", [(EXPORTS, ("unit: HeldUnit, store: &[u8]", "store: &[u8], unit: HeldUnit"))]),
+    ("an exported function that the header lacks", "has `None`, the source `struct jag_done jag_one", [(HEADER, "/* nothing */\n")]),
+    ("a function of the header that is not exported", "jag_two(void)`, the source `None`", [(HEADER, ("/* ", "")), (HEADER, (" */", ""))]),
+    ("no exported function", "exports no function", [(EXPORTS, "fn f() {}\n")]),
     ("an edit in a wrong folder", "has no place", [("crates/small/mustfail/more.edit", FILES[EDIT])]),
     ("an edit with a wrong ending", "has no place", [("crates/small/must-fail/more.edits", FILES[EDIT])]),
     ("an edit in a folder of must-fail", "has no place", [("crates/small/must-fail/more/same.edit", FILES[EDIT])]),

@@ -1,6 +1,7 @@
 //! The library and the unit with fixed arrays side by side: one plant, the
 //! same calls, and the demand that they hold the same.
 
+use crate::call::Call;
 use crate::firmware;
 use crate::fixed::{self, Month, BLOCK};
 
@@ -13,7 +14,7 @@ pub struct Both {
 }
 
 /// A cause number as the library gives it.
-pub fn number<T>(answer: &Result<T, u8>) -> u32 {
+fn number<T>(answer: &Result<T, u8>) -> u32 {
     match answer {
         Ok(_) => 0,
         Err(cause) => u32::from(*cause),
@@ -51,21 +52,30 @@ impl Both {
         self.settle(done, answer)
     }
 
-    pub fn clock_lost(&mut self) -> u32 {
-        let done = firmware::clock_lost(self.unit);
-        let answer = self.fixed.clock_lost();
-        self.settle(done, answer)
-    }
-
-    pub fn update_failed(&mut self, status: u64) -> u32 {
-        let done = firmware::update_failed(self.unit, status);
-        let answer = self.fixed.update_failed(status);
-        self.settle(done, answer)
-    }
-
-    pub fn fixed_failed(&mut self, status: u64) -> u32 {
-        let done = firmware::fixed_failed(self.unit, status);
-        let answer = self.fixed.fixed_failed(status);
+    /// Any call to both, or all questions; its cause.
+    pub fn call(&mut self, call: &Call) -> u32 {
+        let unit = self.unit;
+        let (done, answer) = match call {
+            Call::Tick { second } => return self.tick(*second),
+            Call::TakeFile { name, body } => return self.take_file(name, body),
+            Call::ClockLost => (firmware::clock_lost(unit), self.fixed.clock_lost()),
+            Call::UpdateFailed { status } => (
+                firmware::update_failed(unit, *status),
+                self.fixed.update_failed(*status),
+            ),
+            Call::FixedFailed { status } => (
+                firmware::fixed_failed(unit, *status),
+                self.fixed.fixed_failed(*status),
+            ),
+            Call::Ceiling { slot } => {
+                self.ask(*slot);
+                return 0;
+            }
+            Call::Due | Call::Command | Call::FreeBlocks => {
+                self.ask(0);
+                return 0;
+            }
+        };
         self.settle(done, answer)
     }
 

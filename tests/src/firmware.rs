@@ -64,6 +64,22 @@ pub struct Written {
     pub cause: u32,
 }
 
+impl Written {
+    /// The answer for these bytes, or for a cause's number.
+    pub fn of(bytes: &Result<Vec<u8>, u8>) -> Written {
+        match bytes {
+            Ok(bytes) => Written {
+                length: bytes.len(),
+                cause: 0,
+            },
+            Err(cause) => Written {
+                length: 0,
+                cause: u32::from(*cause),
+            },
+        }
+    }
+}
+
 /// `jag_due_answer`; `kind` is one of the three below.
 #[repr(C)]
 #[derive(Clone, Copy, Debug, PartialEq, Eq)]
@@ -125,7 +141,7 @@ impl FileAnswer {
 
 /// `jag_error`.
 #[repr(C)]
-#[derive(Clone, Copy, Debug, PartialEq, Eq)]
+#[derive(Clone, Copy, Debug, Default, PartialEq, Eq)]
 pub struct ErrorAnswer {
     pub text_at: usize,
     pub text_length: usize,

@@ -15,6 +15,7 @@ pub mod draft;
 pub mod fields;
 pub mod files;
 pub mod instants;
+pub mod lines;
 pub mod outputs;
 pub mod random;
 pub mod shapes;

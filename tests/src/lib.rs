@@ -1,13 +1,13 @@
 //! The library under test, held against a second implementation written from
 //! document 01 alone.
 //!
-//! `reference` is the plain implementation, `fast` a reader and `fixed` a
-//! unit written for speed, `generate` makes the inputs, `lent` the buffers,
-//! `tally` counts what they reach. The libraries under test (feature
-//! `linked`) are `subject`, its readers and writers alone, and `firmware`,
-//! all that firmware calls, which `lists` runs beside the plain machine and
-//! `both` beside `fixed`, with `timing`. `script` has calls and answers as the
-//! text that the program `replay` reads and prints.
+//! `reference` is the plain implementation, `generate` makes the inputs,
+//! `lent` the buffers, `tally` counts what they reach. The library under test
+//! (feature `linked`) is `firmware`, which `lists` runs beside the plain
+//! machine. `replay` is the plain machine behind the text of the program of
+//! that name, `program` runs one. For the benchmark alone `fast` is a reader
+//! and `fixed` a unit written for speed, `both` runs it beside the library,
+//! and `timing` times them.
 
 #[cfg(feature = "linked")]
 pub mod both;
@@ -19,9 +19,8 @@ pub mod generate;
 pub mod lent;
 #[cfg(feature = "linked")]
 pub mod lists;
+pub mod program;
 pub mod reference;
-pub mod script;
-#[cfg(feature = "linked")]
-pub mod subject;
+pub mod replay;
 pub mod tally;
 pub mod timing;

@@ -1,16 +1,14 @@
-//! The reference against the examples of 01 and 002, and its writer against
-//! its reader.
+//! The reference against the examples of 01 and 002, and its calendar against
+//! the generator's.
 
 use compare::generate::cases::{example_10, special, values};
 use compare::generate::draft::PLANT_X;
-use compare::generate::fields::Orders;
 use compare::generate::outputs::{self, MESSAGES};
-use compare::generate::{almanac, Random, DATE_SEED, FIELD_SEED};
+use compare::generate::{almanac, Random, DATE_SEED};
 use compare::reference::error_file::read_error_file;
 use compare::reference::request::request;
 use compare::reference::{body, calendar, lister, name, plant};
-use compare::reference::{read, write, write_into, Fields, Segment};
-use compare::tally::Tally;
+use compare::reference::{read, write, Fields, Segment};
 
 #[test]
 fn example_1_check_digit() {
@@ -229,58 +227,4 @@ fn two_calendars_agree() {
             assert_eq!(almanac::moment(seconds), damaged);
         }
     }
-}
-
-/// The fields that a read file carries.
-fn fields_of(file: &compare::reference::File, next: &[u8]) -> Fields {
-    Fields {
-        format: u32::from(file.format),
-        plant: file.records[0].plant.clone(),
-        schedule: file.records[0].schedule.clone(),
-        start: calendar::digits_of_slot(file.records[0].start_slot),
-        next: file.next.map_or(next.to_vec(), calendar::digits_of_moment),
-        rates: file
-            .records
-            .iter()
-            .flat_map(|record| record.rates.clone())
-            .collect(),
-        flag: file.flag.map_or(0, u32::from),
-    }
-}
-
-#[test]
-fn written_bodies_read_back() {
-    println!("seed {FIELD_SEED}");
-    let mut tally = Tally::new("reference writer");
-    for order in Orders::new(FIELD_SEED).take(20_000) {
-        let written = write_into(&order.fields, order.room);
-        tally.add(&written);
-        let cause = written.as_ref().map_or_else(|cause| *cause, |_| 0);
-        assert!(
-            order.expected.is_none_or(|expected| expected == cause),
-            "{:?}",
-            order.fields
-        );
-        let Ok(body) = written else { continue };
-        let fields = order.fields;
-        let segment = match fields.format {
-            201 => "9997".to_string(),
-            202 => fields.start[2..6].iter().map(u8::to_string).collect(),
-            _ => "0000".to_string(),
-        };
-        let id: String = fields.plant.iter().map(u8::to_string).collect();
-        let name = format!("{}_{segment}_{id}_20260327090000.data", fields.format);
-        let file = read(Some(&fields.plant), name.as_bytes(), &body).expect("reads back");
-        let mut back = fields_of(&file, &fields.next);
-        assert!(file
-            .records
-            .iter()
-            .all(|record| record.schedule == fields.schedule));
-        assert_eq!(write(&back), Ok(body), "read and written");
-        if fields.format != 203 {
-            back.flag = fields.flag;
-        }
-        assert_eq!(back, fields);
-    }
-    tally.settle(&[1, 6, 7, 9, 10, 11, 15]);
 }

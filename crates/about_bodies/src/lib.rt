@@ -1,1 +1,1 @@
-// Theorems on what the functions of `records`, `writer` and `transfer` answer, one after the other. There is no code here.
+// Theorems on what the functions of `records` and `writer` answer, one after the other, for a file that `rules` reads. There is no code here.

@@ -1,1 +1,1 @@
-// The theorem about a body that C reads, takes apart and writes again. There is no code here.
+// The theorem about a body that C reads, takes apart and writes again, and what the contracts of the exported functions on files say. There is no code here.

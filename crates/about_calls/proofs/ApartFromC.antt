@@ -2,14 +2,14 @@
 use Prim.Native.Nat.{ℕ}
 use mathlib.Core.Path.{_≡_, sym, ap, _∙_, subst, subst₂}
 use mathlib.Core.List.{List, [], _∷_}
-use Rattle.rules.specs.Machine.{Machine, Call, step as machineStep}
+use Rattle.rules.specs.Machine.{Machine, Call, step as machineStep, after as machineAfter}
 use Rattle.plant.specs.Plant.{plantOf}
 use Rattle.plant.proofs.Laws.{accepted-values}
 use Rattle.taking.specs.Step.{State, step, after}
 use Rattle.unit.specs.declared.Unit.{Unit}
 use Rattle.c_structs.proofs.Handing.{unit-back}
 use Rattle.about_calls.specs.Theorem.{fresh, toldBy}
-use Rattle.about_calls.specs.Apart.{Matched, Moved}
+use Rattle.about_calls.specs.Apart.{Matched, Stays, Moved}
 use Rattle.about_calls.specs.Lists.{HeldState, shutState, heldStep, heldAfter}
 use Rattle.about_calls.specs.ApartFromC.{openedState, heldFrom, machineFrom, MatchedFromC}
 use Rattle.about_calls.proofs.Lists.{same-from-c}
@@ -38,4 +38,8 @@ matched-from-c id mac set zero store cs =
           let next : openedState (heldStep c (heldFrom id mac set store cs) .1) ≡ step c s .1 =
           ap (λ (h : HeldState). openedState (heldStep c h .1)) at ∙ ap openedState (step-shut c s) ∙ opened-shut (step c s .1) in
           subst₂ (λ (t u : State). Moved t u M (machineStep (toldBy id set store) c M .1)) (sym is) (sym next) (all .1 c),
+      λ ds.
+          let last : openedState (heldAfter ds (heldFrom id mac set store cs)) ≡ after ds s =
+          ap (λ (h : HeldState). openedState (heldAfter ds h)) at ∙ ap openedState (same-from-c ds s .1) ∙ opened-shut (after ds s) in
+          subst₂ (λ (t u : State). Stays t u M (machineAfter (toldBy id set store) ds M)) (sym is) (sym last) (all .2 ds),
     )

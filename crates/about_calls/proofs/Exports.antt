@@ -1,26 +1,34 @@
--- Each exported contract is the step from C: where a contract in crates/jagwelu is changed, this is refused. Assumes nothing.
-use mathlib.Core.Path.{ap, ap₂}
+-- Each exported contract is the step from C, and that of `taking::step` the unit's: where a contract in crates/jagwelu or of `step` is changed, this is
+-- refused. Assumes nothing.
+use mathlib.Core.Path.{ap, ap₂, _∙_}
+use mathlib.Core.List.{List}
+use Prim.Native.Nat.{ℕ}
 use denote.Ref.{now}
+use Rattle.taking.specs.Stepping.{replyOf}
+use Rattle.taking.specs.declared.calls.Stepped.{Stepped}
+use Rattle.taking.proofs.StepLaws.{steps-agree}
 use Rattle.c_structs.specs.declared.structs.Handed.{Handed}
 use Rattle.c_structs.specs.declared.answers.Number.{Number}
 use Rattle.c_structs.specs.declared.answers.DueAnswer.{DueAnswer}
 use Rattle.c_structs.specs.declared.answers.CeilingAnswer.{CeilingAnswer}
 use Rattle.about_calls.specs.Lists.{handedStep, dueMeans, ceilingMeans, commandMeans, blocksMeans, heldStep}
-use Rattle.about_calls.specs.Exports.{heldWith, ExportsSay, ExportsAsk}
+use Rattle.about_calls.specs.Exports.{heldWith, unitWith, ExportsSay, ExportsAsk, StepSays}
 
 pub exports-say : ExportsSay
 unfolding heldStep
 exports-say = record {
   install = λ κs id mac panel inverter minutes r e said. said;
-  ticks = λ κs u t store r e said. ap (λ (h : Handed). handedStep h (now store)) said;
+  ticks = λ κs u t store r w said. ap (λ (h : Handed). handedStep h (now store)) said;
   lost = λ κs u store r e said. ap (λ (h : Handed). handedStep h store) said;
-  taken = λ κs u name body store r e said. ap₂ handedStep (said .0) (said .1);
+  taken = λ κs u name body store r w said. ap₂ handedStep (said .0) (said .1);
   update = λ κs u status store r e said. ap (λ (h : Handed). handedStep h store) said;
   fixed = λ κs u status store r e said. ap (λ (h : Handed). handedStep h store) said;
   dues = λ κs u store r e said. ap (λ (a : DueAnswer). (dueMeans a, heldWith u store)) said;
-  ceilings = λ κs u slot store r e said. ap (λ (a : CeilingAnswer). (ceilingMeans a, heldWith u (now store))) said;
+  ceilings = λ κs u slot store r w said. ap (λ (a : CeilingAnswer). (ceilingMeans a, heldWith u (now store))) said;
   commands = λ κs u store r e said. ap (λ (a : Number). (commandMeans a, heldWith u store)) said;
   blocks = λ κs u store r e said. ap (λ (a : Number). (blocksMeans a, heldWith u store)) said;
+  checked = λ κs u store r e said. said;
+  requested = λ κs u segment out r w said. said;
 }
 
 pub exports-ask : ExportsAsk
@@ -35,4 +43,14 @@ exports-ask = record {
   ceilings = λ κs a. tt;
   commands = λ κs a. tt;
   blocks = λ κs a. tt;
+  checked = λ κs a. tt;
+  requested = λ κs a. tt;
 }
+
+pub step-says : StepSays
+step-says = (
+  λ κs a. tt,
+  λ κs u call name body store r w said.
+      ap₂ (λ (s : Stepped) (after : List ℕ). (replyOf (s .reply), unitWith (s .unit) after)) (said .0) (said .1)
+      ∙ steps-agree u call (now name) (now body) (now store),
+)

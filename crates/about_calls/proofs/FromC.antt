@@ -2,7 +2,7 @@
 use Prim.Native.Nat.{ℕ}
 use mathlib.Core.Path.{_≡_, refl, ap, _∙_}
 use mathlib.Core.Bool.{Bool, true, false}
-use mathlib.Core.List.{List, [], _∷_}
+use mathlib.Core.List.{List, [], _∷_, map}
 use native.Mathlib.Omega.{arith}
 use lib.Dec.{eqb}
 use lib.ListN.{length}
@@ -19,6 +19,7 @@ use Rattle.plant.specs.declared.Plant.{Plant}
 use Rattle.plant.proofs.Laws.{accepted-keeps, accepted-values}
 use Rattle.unit.specs.Values.{isSound, freshUnit, installedUnit}
 use Rattle.unit.specs.Rows.{firstOf}
+use Rattle.unit.specs.Request.{requestOf}
 use Rattle.unit.specs.Calls.{tickOf, lostOf, failureOf, dueOf, ceilingOf as ceilingAt, commandOf, freeOf}
 use Rattle.taking.specs.Taken.{takeOf, storeAfterTake}
 use Rattle.unit.proofs.CallLaws.{sound-is}
@@ -102,12 +103,16 @@ module _ (u : HeldUnit) (bad : isSound (opened u) ≡ false) (store : List ℕ) 
   step-refused command = rw bad
   step-refused freeBlocks = rw bad
 
-  all-refused : AllRefused s
+  list-refused : (cs : List Call) → (heldReplies cs s ≡ map (unsoundReply store) cs) × (heldAfter cs s ≡ s)
   unfolding heldReplies heldAfter
-  all-refused [] = (refl, refl)
-  all-refused (c ∷ cs) =
-      let rest = all-refused cs in
+  list-refused [] = (refl, refl)
+  list-refused (c ∷ cs) =
+      let rest = list-refused cs in
       rw (step-refused c) (ap (λ (rs : List Reply). unsoundReply store c ∷ rs) (rest .0), rest .1)
+
+  all-refused : AllRefused s
+  unfolding requestOf
+  all-refused = (list-refused, λ segment room. rw bad refl)
 
 pub unsound-from-c : UnsoundFromC
 unsound-from-c u bad store = all-refused u bad store

@@ -7,7 +7,7 @@ use Rattle.rules.specs.Machine.{Machine, Call, freshMachine, step as machineSte
 use Rattle.taking.specs.Step.{State}
 use Rattle.c_structs.specs.Held.{opened}
 use Rattle.about_calls.specs.Theorem.{toldBy}
-use Rattle.about_calls.specs.Apart.{Matched, Moved}
+use Rattle.about_calls.specs.Apart.{Matched, Stays, Moved}
 use Rattle.about_calls.specs.Lists.{HeldState, heldInstall, heldStep, heldAfter}
 use Rattle.about_calls.specs.FromC.{newlyHeld}
 
@@ -22,7 +22,7 @@ heldFrom id mac set store cs = heldAfter cs (newlyHeld id mac set store)
 abbrev pub machineFrom : List ℕ → Settings → List ℕ → List Call → Machine
 machineFrom id set store cs = machineAfter (toldBy id set store) cs freshMachine
 
--- where jag_install answers 0
+-- where jag_install answers 0: after every list of calls cs; from there over every call c; and over every further list ds
 abbrev pub MatchedFromC : Type 0
 MatchedFromC =
     (id mac : List ℕ) (set : Settings) → heldInstall id mac set .cause ≡ 0 → (store : List ℕ) (cs : List Call)
@@ -30,3 +30,6 @@ MatchedFromC =
     × ((c : Call)
     → Moved (openedState (heldFrom id mac set store cs)) (openedState (heldStep c (heldFrom id mac set store cs) .1)) (machineFrom id set store cs)
     (machineStep (toldBy id set store) c (machineFrom id set store cs) .1))
+    × ((ds : List Call)
+    → Stays (openedState (heldFrom id mac set store cs)) (openedState (heldAfter ds (heldFrom id mac set store cs))) (machineFrom id set store cs)
+    (machineAfter (toldBy id set store) ds (machineFrom id set store cs)))

@@ -5,10 +5,13 @@ use mathlib.Core.List.{List, map}
 use Prim.Native.Nat.{ℕ}
 use Rattle.rules.specs.Machine.{Call, freshMachine, replies as machineReplies, after as machineAfter}
 use Rattle.rules.specs.Plant.{Settings}
+use Rattle.rules.specs.Writer.{refuse}
+use Rattle.rules.specs.declared.Cause.{Cause}
 use Rattle.plant.specs.Plant.{validPlant, plantOf}
 use Rattle.plant.specs.declared.Plant.{Plant}
 use Rattle.taking.specs.Step.{after}
 use Rattle.unit.specs.Values.{isSound}
+use Rattle.unit.specs.Request.{requestOf}
 use Rattle.c_structs.specs.Held.{opened}
 use Rattle.c_structs.specs.declared.structs.HeldUnit.{HeldUnit}
 use Rattle.about_calls.specs.Lists.{HeldState, shutState, heldInstall, heldReplies, heldAfter}
@@ -37,9 +40,11 @@ InstalledFromC =
     × (heldAfter cs (newlyHeld id mac set store) ≡ shutState (after cs (fresh (plantOf id mac set) store)))
     × Holds (after cs (fresh (plantOf id mac set) store)) (machineAfter (toldBy id set store) cs freshMachine)
 
--- every list of calls on a state is refused as calls on a unit that is not sound are, and leaves struct and store as they were
+-- every list of calls on a state is refused as calls on a unit that is not sound are, and leaves struct and store as they were; and so is every request
 abbrev pub AllRefused : HeldState → Type 0
-AllRefused s = (cs : List Call) → (heldReplies cs s ≡ map (unsoundReply (s .store)) cs) × (heldAfter cs s ≡ s)
+AllRefused s =
+    ((cs : List Call) → (heldReplies cs s ≡ map (unsoundReply (s .store)) cs) × (heldAfter cs s ≡ s))
+    × ((segment : List ℕ) (room : ℕ) → requestOf (opened (s .unit)) segment room ≡ refuse Cause.Unsound)
 
 -- of every struct that stands for no sound unit
 abbrev pub UnsoundFromC : Type 0

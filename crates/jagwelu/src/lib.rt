@@ -18,6 +18,8 @@ ghost use Rattle.writer.specs.Fields.{fieldsOf};
 ghost use Rattle.c_structs.specs.Held.{opened, handed, newly};
 ghost use Rattle.jagwelu.specs.Check.{checkNumber};
 ghost use Rattle.c_structs.specs.Answers.{dueNumbers, ceilingNumbers, commandNumber, blocksNumber, writtenNumbers, fileNumbers, errorNumbers};
+pub use bodies::jag_copy_rates;
+pub use bodies::jag_record;
 use c_structs::CeilingAnswer;
 use c_structs::DueAnswer;
 use c_structs::ErrorAnswer;

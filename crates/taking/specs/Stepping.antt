@@ -1,4 +1,4 @@
--- A call given to the code as a value: what `Unit::step` returns and leaves, and that it is the step which the theorem about every list of calls runs.
+-- A call given to the code as a value: what `taking::step` returns and leaves, and that it is the step which the theorem about every list of calls runs.
 use Prim.Native.Nat.{ℕ}
 use mathlib.Core.Path.{_≡_}
 use mathlib.Core.List.{List}

@@ -1,25 +1,23 @@
 //! Random lists of calls as text, given to the program `replay`, its answers
 //! held to those of the plain machine: `replay_lists PROGRAM [COUNT [SEED]]`.
 
-use std::collections::{BTreeMap, BTreeSet};
-use std::io::{Read, Write};
-use std::process::{Command, ExitCode, Stdio};
-use std::thread;
+use std::collections::BTreeMap;
+use std::process::ExitCode;
 
-use compare::call::Call;
 use compare::generate::calls::{Calls, Installing};
+use compare::generate::lines::{call_line, install_line, request_line, NO_CALLS};
 use compare::generate::{outputs, Random, LIST_SEED};
+use compare::program;
 use compare::reference::machine::STORE_LENGTH;
 use compare::reference::Machine;
-use compare::script::{answer_line, block_line, call_line, install_line, state_line};
-use compare::script::{request_lines, LINE_MAX, NO_CALLS};
+use compare::replay::{Replay, LINE_MAX};
 
 /// Every word with every answer that it can have: what must come, and nothing
-/// besides. `unknown`, `too long` and `no unit` stand under no word.
+/// besides. What any line may be answered with stands under no word.
 const ANSWERS: &[(&str, &[&str])] = &[
     ("install", &["accepted", "refused 1", "refused 2"]),
     ("store", &["accepted"]),
-    ("byte", &["accepted", "unknown"]),
+    ("byte", &["accepted"]),
     ("tick", &["accepted", "refused 3", "refused 4", "refused 6"]),
     ("lost", &["accepted"]),
     (
@@ -58,15 +56,14 @@ const ANSWERS: &[(&str, &[&str])] = &[
     ("request", &["84 bytes", "refused 7"]),
     ("state", &["clock"]),
     ("block", &["1488 bytes", "none"]),
-    ("any line", &["unknown", "too long", "no unit"]),
+    ("any line", &["unknown", "too long", "no unit", "no answer"]),
 ];
 
 /// An answer without its values.
 fn kind(answer: &str) -> &str {
     match answer.split(' ').next() {
         Some(first) if first.parse::<u32>().is_ok() && answer.len() < 10 => "a number",
-        Some("refused") => answer,
-        Some("no" | "too") => answer,
+        Some("refused" | "no" | "too") => answer,
         Some("clock") => "clock",
         Some(_) if answer.len() == 84 => "84 bytes",
         Some(_) if answer.len() == 2 * 1_488 => "1488 bytes",
@@ -75,139 +72,134 @@ fn kind(answer: &str) -> &str {
     }
 }
 
-/// Lines that go in, and what must come out; how often each word had each
-/// kind of answer.
+/// The word of a line with this answer.
+fn word(line: &[u8], answer: &str) -> &'static str {
+    let titles = ANSWERS.iter().map(|(word, _)| *word);
+    let mut named = titles.filter(|title| line.starts_with(title.as_bytes()));
+    match answer {
+        "unknown" | "too long" | "no unit" | "no answer" => "any line",
+        _ => named.next().unwrap_or("any line"),
+    }
+}
+
+/// Lines that go in, and what the plain machine answers; how often each word
+/// had each kind of answer.
 #[derive(Default)]
 struct Script {
+    replay: Replay,
     input: Vec<u8>,
     expected: Vec<String>,
     counts: BTreeMap<(&'static str, String), u64>,
+    /// Lines that put the store right again.
+    mending: Vec<String>,
 }
 
 impl Script {
-    fn add(&mut self, word: &'static str, line: &[u8], expected: String) {
-        let count = self.counts.entry((word, kind(&expected).to_string()));
+    fn add(&mut self, line: &[u8]) {
+        let answer = self.replay.answer(line);
+        let told = answer.as_deref().unwrap_or("no answer");
+        let count = self
+            .counts
+            .entry((word(line, told), kind(told).to_string()));
         *count.or_insert(0) += 1;
         self.input.extend_from_slice(line);
         self.input.push(b'\n');
-        self.expected.push(expected);
+        self.expected.extend(answer);
+    }
+
+    fn machine(&self) -> &Machine {
+        self.replay
+            .machine()
+            .expect("a list begins with installing")
     }
 
     /// Before the first unit is installed nothing is answered but `no unit`.
     fn before(&mut self) {
         for line in ["due", "tick 5", "state", "block 3", "failure fixed 0"] {
-            self.add("any line", line.as_bytes(), "no unit".to_string());
+            self.add(line.as_bytes());
         }
     }
 
-    /// A call, as long as it fits a line.
-    fn call(&mut self, machine: &mut Machine, call: &Call, sound: bool, random: &mut Random) {
-        let word = match call {
-            Call::Tick { .. } => "tick",
-            Call::ClockLost => "lost",
-            Call::TakeFile { .. } => "take",
-            Call::UpdateFailed { .. } => "failure update",
-            Call::FixedFailed { .. } => "failure fixed",
-            Call::Due => "due",
-            Call::Ceiling { .. } => "ceiling",
-            Call::Command => "command",
-            Call::FreeBlocks => "free",
+    fn install(&mut self, random: &mut Random) {
+        let Installing {
+            id, mac, settings, ..
+        } = Installing::some(random);
+        self.add(&install_line(&id, &mac, settings, random));
+    }
+
+    /// Some bytes, or all, changed behind the unit's back; 255 is lawful in
+    /// every place.
+    fn change_store(&mut self, random: &mut Random) {
+        if random.once_in(4) {
+            let length = random.pick(&[STORE_LENGTH, STORE_LENGTH - 1, 0, 32_768]);
+            let byte = random.pick(&[255, 0, 50, 171]);
+            self.add(format!("store {length} {byte}").as_bytes());
+            self.mending = vec![format!("store {STORE_LENGTH} 255")];
+            return;
+        }
+        for _ in 0..random.between(1, 16) {
+            let place = 1_488 * random.below(16) as usize + random.place(1_488);
+            let byte = random.pick(&[0, 50, 100, 101, 200, 254, 255]);
+            self.add(format!("byte {place} {byte}").as_bytes());
+            self.mending.push(format!("byte {place} 255"));
+        }
+    }
+
+    /// The block of a month from the floor on, or of a number that is none.
+    fn block(&mut self, random: &mut Random) {
+        let floor = self.machine().schedule.floor;
+        let month = match random.once_in(8) {
+            true => random.pick(&[1_200, 65_536 + u64::from(floor), u64::MAX]),
+            false => u64::from(floor) + random.below(16),
         };
-        let line = call_line(call, random);
-        if line.len() > LINE_MAX {
-            self.add("any line", &line, "too long".to_string());
-        } else if sound || !call.is_lent_the_store() || machine.store_length != STORE_LENGTH {
-            self.add(word, &line, answer_line(machine.answer(call)));
-        } else {
-            self.add(word, &line, "refused 4".to_string());
-        }
+        self.add(format!("block {month}").as_bytes());
     }
 
-    /// An install that is refused, after which the unit is as it was.
-    fn refused_install(&mut self, random: &mut Random) {
-        let made = outputs::install(random);
-        let settings = [made.panel, made.inverter, made.minutes];
-        if made.expected != 0 {
-            let line = install_line(&made.id, &made.mac, settings, random);
-            self.add("install", &line, format!("refused {}", made.expected));
+    /// Something between the calls.
+    fn between(&mut self, random: &mut Random) {
+        if random.once_in(6) {
+            for line in std::mem::take(&mut self.mending) {
+                self.add(line.as_bytes());
+            }
         }
-    }
-
-    /// Something between the calls: a request, the state, a line that is no
-    /// call or too long.
-    fn between(&mut self, machine: &Machine, mac: &[u8], random: &mut Random) {
-        match random.below(40) {
-            0..10 => self.add("state", b"state", state_line(machine)),
-            10..14 => {
-                let (line, answer) = request_lines(&machine.id, mac, random);
-                self.add("request", &line, answer);
+        match random.below(80) {
+            0..20 => self.add(b"state"),
+            20..28 => {
+                let (_, _, segment, _, _) = outputs::request(random);
+                self.add(&request_line(&segment, random));
             }
-            14 => {
-                let line = random.pick(&NO_CALLS);
-                self.add("any line", line, "unknown".to_string());
+            28 | 29 => self.add(random.pick(&NO_CALLS)),
+            30 | 31 => self.add(random.pick(&[b"", b"#", b"# due"])),
+            32 | 33 => {
+                let made = outputs::install(random);
+                let settings = [made.panel, made.inverter, made.minutes];
+                self.add(&install_line(&made.id, &made.mac, settings, random));
             }
-            15 => self.refused_install(random),
-            16 if random.once_in(40) => {
-                let line = vec![random.pick(b"# a"); LINE_MAX + 1];
-                self.add("any line", &line, "too long".to_string());
-            }
+            34 => self.change_store(random),
+            35..38 => self.block(random),
+            38 if random.once_in(20) => self.add(&vec![random.pick(b"# a"); LINE_MAX + 1]),
             _ => {}
         }
     }
 
-    /// The first byte of each block spoilt, and some calls: those that are lent
-    /// the store are refused with 4 where a month is held.
-    fn spoilt(&mut self, machine: &mut Machine, calls: &mut Calls, random: &mut Random) {
-        for block in 0..16 {
-            let line = format!("byte {} {}", 1_488 * block, random.between(101, 254));
-            let answer = match 1_488 * block < machine.store_length {
-                true => "accepted",
-                false => "unknown",
-            };
-            self.add("byte", line.as_bytes(), answer.to_string());
-        }
-        for _ in 0..8 {
-            // Where no month is held every call goes on, and the block of a
-            // month that a file brought would be sound: files are left out.
-            let sound = machine.schedule.held().is_empty();
-            let call = calls.next(machine, random);
-            if sound && matches!(call, Call::TakeFile { .. }) {
-                continue;
-            }
-            self.call(machine, &call, sound, random);
-        }
-    }
-
-    /// A list: installed with a store of one byte, calls, every month's block,
-    /// and at times a spoilt store.
+    /// A list: a unit installed, a store of one byte, calls with other lines
+    /// between them, and every month's block.
     fn list(&mut self, random: &mut Random) {
-        let values = Installing::some(random);
+        self.install(random);
         let length = match random.once_in(10) {
             true => random.pick(&[0, 1, STORE_LENGTH - 1, STORE_LENGTH + 1, 32_768]),
             false => STORE_LENGTH,
         };
-        let install = install_line(&values.id, &values.mac, values.settings, random);
-        self.add("install", &install, "accepted".to_string());
-        let store = format!("store {length} {}", random.byte());
-        self.add("store", store.as_bytes(), "accepted".to_string());
-        let mut machine = Machine::install(&values.id, &values.mac, values.settings, length)
-            .expect("values that are accepted");
+        self.add(format!("store {length} {}", random.byte()).as_bytes());
         let mut calls = Calls::some(random);
         for _ in 0..random.between(20, 120) {
-            let call = calls.next(&machine, random);
-            self.call(&mut machine, &call, true, random);
-            self.between(&machine, &values.mac, random);
+            let call = calls.next(self.machine(), random);
+            self.add(&call_line(&call, random));
+            self.between(random);
         }
-        let held = machine.schedule.held();
-        for month in held.iter().copied().chain([0, 1_199, 1_200]) {
-            let block = match length == STORE_LENGTH && held.contains(&month) {
-                true => block_line(&machine, month),
-                false => "none".to_string(),
-            };
-            self.add("block", format!("block {month}").as_bytes(), block);
-        }
-        if random.once_in(3) {
-            self.spoilt(&mut machine, &mut calls, random);
+        let held = self.machine().schedule.held();
+        for month in held.into_iter().chain([0, 1_199, 1_200]) {
+            self.add(format!("block {month}").as_bytes());
         }
     }
 
@@ -234,60 +226,20 @@ impl Script {
     }
 }
 
-/// What the program prints for the input.
-fn replayed(program: &str, input: Vec<u8>) -> std::io::Result<String> {
-    let mut child = Command::new(program)
-        .stdin(Stdio::piped())
-        .stdout(Stdio::piped())
-        .spawn()?;
-    let mut stdin = child.stdin.take().expect("a pipe");
-    let writer = thread::spawn(move || stdin.write_all(&input));
-    let mut output = String::new();
-    child
-        .stdout
-        .take()
-        .expect("a pipe")
-        .read_to_string(&mut output)?;
-    writer.join().expect("the writer")?;
-    child.wait()?;
-    Ok(output)
-}
-
-/// The line without the blocks of its months; nothing where two months have
-/// one block, or one is none of the sixteen.
-fn without_blocks(line: &str) -> Option<String> {
-    let Some((front, held)) = line.split_once(" held ") else {
-        return Some(line.to_string());
-    };
-    if held == "-" {
-        return Some(line.to_string());
-    }
-    let mut blocks = BTreeSet::new();
-    let mut months = Vec::new();
-    for place in held.split(',') {
-        let (month, block) = place.split_once(':')?;
-        let block: u8 = block.parse().ok()?;
-        if block >= 16 || !blocks.insert(block) {
-            return None;
-        }
-        months.push(month);
-    }
-    Some(format!("{front} held {}", months.join(",")))
-}
-
 /// The first line that differs, told.
-fn difference(script: &Script, output: &str) -> Option<String> {
+fn difference(script: &Script, output: &[u8]) -> Option<String> {
+    let output = String::from_utf8_lossy(output);
     let lines: Vec<&str> = output.lines().collect();
     for (index, expected) in script.expected.iter().enumerate() {
         let line = lines.get(index).copied().unwrap_or("nothing");
-        if without_blocks(line).as_deref() != Some(expected) {
+        if line != expected {
+            let place = index + 1;
             return Some(format!(
-                "line {}: replay {line}, reference {expected}",
-                index + 1
+                "answer {place}: replay {line}, reference {expected}"
             ));
         }
     }
-    (lines.len() != script.expected.len()).then(|| format!("{} lines", lines.len()))
+    (lines.len() != script.expected.len()).then(|| format!("{} answers", lines.len()))
 }
 
 fn main() -> ExitCode {
@@ -307,7 +259,7 @@ fn main() -> ExitCode {
     for list in 0..count {
         script.list(&mut Random::new(seed + list));
     }
-    let output = match replayed(&program, script.input.clone()) {
+    let output = match program::output(&program, &script.input) {
         Ok(output) => output,
         Err(error) => {
             println!("error: {program}: {error}");
@@ -318,10 +270,8 @@ fn main() -> ExitCode {
         println!("{difference}");
         return ExitCode::FAILURE;
     }
-    println!(
-        "{count} lists, {} lines: no difference",
-        script.expected.len()
-    );
+    let answers = script.expected.len();
+    println!("{count} lists, {answers} answers: no difference");
     let wrong = script.coverage();
     for line in &wrong {
         println!("error: {line}");

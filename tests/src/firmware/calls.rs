@@ -1,7 +1,9 @@
 //! The C functions of `libjagwelu.a`, and safe calls around them. A slice
 //! passes as pointer, then length.
 
-use super::{CeilingAnswer, Done, DueAnswer, ErrorAnswer, FileAnswer, Number, Places, Unit, Written};
+use super::{
+    CeilingAnswer, Done, DueAnswer, ErrorAnswer, FileAnswer, Number, Places, Unit, Written,
+};
 use crate::reference::Fields;
 
 #[rustfmt::skip]

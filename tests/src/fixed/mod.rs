@@ -4,7 +4,7 @@
 //!
 //! The unit owns its arrays, so cause 3 can't come: no length is given.
 
-pub mod calendar;
+mod calendar;
 mod months;
 mod plant;
 mod questions;
@@ -12,10 +12,10 @@ mod requests;
 mod take;
 mod tick;
 
-pub use months::{Month, Months, BLOCK, MONTHS_HELD, NO_RATE};
+pub use months::{Month, Months, BLOCK};
 pub use plant::Plant;
-pub use questions::{Ceiling, Due};
-pub use requests::{Requests, NO_FLAG};
+pub use questions::Due;
+pub use requests::Requests;
 
 use calendar::{END, MONTHS};
 

@@ -1,9 +1,8 @@
-//! The questions: ceiling, what is due, command, free months, request.
+//! The questions: ceiling, what is due, command, free months.
 
 use super::calendar::SLOTS;
 use super::requests::{in_window, NO_FLAG};
 use super::Unit;
-use crate::reference::request::request;
 
 /// The ceiling of a slot that has a rate.
 #[derive(Clone, Copy, Debug, PartialEq, Eq)]
@@ -63,11 +62,5 @@ impl Unit {
     pub fn free_blocks(&self) -> Result<u32, u8> {
         self.check_values()?;
         Ok(self.months.free_count())
-    }
-
-    /// The request for a segment of four ASCII digits.
-    pub fn request(&self, segment: &[u8], room: usize) -> Result<Vec<u8>, u8> {
-        self.check_values()?;
-        request(&self.plant.id, &self.plant.mac, segment, room)
     }
 }

@@ -179,7 +179,7 @@ pub fn wrong_plant(random: &mut Random) -> Vec<u8> {
 }
 
 /// A MAC address that isn't one: lower case, with dashes, too long or short.
-pub fn wrong_mac(random: &mut Random) -> Vec<u8> {
+fn wrong_mac(random: &mut Random) -> Vec<u8> {
     let mut address = mac(random);
     match random.below(6) {
         0 => address[random.place(12)] = random.pick(b"abcdef"),
@@ -206,7 +206,7 @@ pub fn segment(random: &mut Random) -> Vec<u8> {
 }
 
 /// A segment that no name may have.
-pub fn wrong_segment(random: &mut Random) -> Vec<u8> {
+fn wrong_segment(random: &mut Random) -> Vec<u8> {
     let text: &[u8] = random.pick(&[
         b"",
         b"0",

@@ -3,7 +3,7 @@
 use super::branches::{self, Before};
 use super::counts::Counts;
 use crate::call::{Answer, Call};
-use crate::firmware::{self, Unit, BLOCK_LENGTH};
+use crate::firmware::{self, Unit, Written, BLOCK_LENGTH};
 use crate::generate::calls::Installing;
 use crate::generate::{outputs, Random};
 use crate::lent::Lent;
@@ -249,13 +249,7 @@ pub fn check_request(unit: &Unit, random: &mut Random) -> Result<(), String> {
     };
     let mut buffer = Lent::new(room);
     let written = firmware::request(*unit, &segment, buffer.room());
-    let cause = expected.as_ref().err().copied().unwrap_or(0);
-    let length = expected.as_ref().map_or(0, Vec::len);
-    same(
-        "request",
-        (written.cause, written.length),
-        (u32::from(cause), length),
-    )?;
+    same("request", written, Written::of(&expected))?;
     buffer.check(&expected);
     Ok(())
 }

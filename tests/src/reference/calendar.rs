@@ -16,7 +16,7 @@ const FIRST_YEAR: i64 = 2000;
 const LAST_YEAR: i64 = 2099;
 
 /// Days from 1970-01-01 to a Gregorian date (Hinnant).
-pub fn days_from_civil(year: i64, month: i64, day: i64) -> i64 {
+fn days_from_civil(year: i64, month: i64, day: i64) -> i64 {
     let y = if month <= 2 { year - 1 } else { year };
     let era = y.div_euclid(400);
     let year_of_era = y.rem_euclid(400);
@@ -27,7 +27,7 @@ pub fn days_from_civil(year: i64, month: i64, day: i64) -> i64 {
 }
 
 /// The Gregorian date (year, month, day) of a day counted from 1970-01-01.
-pub fn civil_from_days(days: i64) -> (i64, i64, i64) {
+fn civil_from_days(days: i64) -> (i64, i64, i64) {
     let z = days + 719_468;
     let era = z.div_euclid(146_097);
     let day_of_era = z.rem_euclid(146_097);
@@ -51,7 +51,7 @@ fn is_leap_year(year: i64) -> bool {
 }
 
 /// Does the date exist, with a year 2000 to 2099?
-pub fn date_exists(year: i64, month: i64, day: i64) -> bool {
+fn date_exists(year: i64, month: i64, day: i64) -> bool {
     let days = match month {
         1 | 3 | 5 | 7 | 8 | 10 | 12 => 31,
         4 | 6 | 9 | 11 => 30,

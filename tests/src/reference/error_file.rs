@@ -2,7 +2,7 @@
 //! 384 bytes of valid UTF-8 (cause 16).
 
 /// The most bytes of a text.
-pub const TEXT_MAX: usize = 384;
+const TEXT_MAX: usize = 384;
 
 /// The code (0 to 1999) and the text.
 pub fn read_error_file(file: &[u8]) -> Result<(u32, &[u8]), u8> {

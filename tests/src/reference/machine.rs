@@ -10,7 +10,7 @@ use crate::call::{Answer, Call};
 /// The bytes of a store: 16 blocks of 1,488.
 pub const STORE_LENGTH: usize = 23_808;
 /// The most months that may be held.
-pub const MONTHS_MAX: usize = 16;
+const MONTHS_MAX: usize = 16;
 
 /// Capacities in W and the ramp minutes N.
 #[derive(Clone, Copy, Debug, PartialEq, Eq)]

@@ -16,7 +16,7 @@ pub mod schedule;
 pub mod soundness;
 pub mod writer;
 
-pub use body::{read, File, Record};
+pub use body::read;
 pub use machine::Machine;
 pub use name::Segment;
 pub use writer::{write, write_into, Fields};

@@ -4,7 +4,7 @@ use super::calendar::{moment, number};
 use super::plant::is_plant_id;
 
 /// The bytes of a name.
-pub const NAME_LENGTH: usize = 55;
+const NAME_LENGTH: usize = 55;
 
 /// What a name's segment says.
 #[derive(Clone, Copy, Debug, PartialEq, Eq)]

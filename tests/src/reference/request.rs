@@ -7,7 +7,7 @@ use super::plant::{is_mac, is_plant_id};
 pub const REQUEST_LENGTH: usize = 84;
 
 /// May some name have this segment?
-pub fn is_segment(segment: &[u8]) -> bool {
+fn is_segment(segment: &[u8]) -> bool {
     [201, 202, 203, 301]
         .iter()
         .any(|format| segment_of(*format, segment).is_some())

@@ -36,7 +36,7 @@ fn months_are_sound(unit: &Unit) -> bool {
 }
 
 /// 'A unit is sound when ..'
-pub fn unit_is_sound(unit: &Unit) -> bool {
+fn unit_is_sound(unit: &Unit) -> bool {
     let settings = [unit.panel, unit.inverter, unit.minutes].map(u64::from);
     let [panel, inverter, minutes] = settings;
     plant::install(&unit.id, &unit.mac, panel, inverter, minutes).is_ok()
@@ -51,15 +51,18 @@ pub fn unit_is_sound(unit: &Unit) -> bool {
         && unit.command <= 6_000 * unit.minutes
 }
 
-/// 'A store is sound when each held block's bytes are 0 to 100 or 255, and 255
-/// past its month's end.' Asked of a sound unit and a store of 01's length.
-fn store_is_sound(unit: &Unit, store: &[u8]) -> bool {
-    unit.held().all(|(month, block)| {
-        let bytes = &store[block * BLOCK_LENGTH..][..BLOCK_LENGTH];
-        let (rates, past) = bytes.split_at(48 * days_of_month(month) as usize);
-        let lawful = |byte: &u8| *byte <= 100 || *byte == NO_RATE;
-        rates.iter().all(lawful) && past.iter().all(|byte| *byte == NO_RATE)
-    })
+/// 'Each held block's bytes are 0 to 100 or 255, and 255 past its month's
+/// end.'
+pub fn block_is_sound(month: u16, block: &[u8]) -> bool {
+    let (rates, past) = block.split_at(48 * days_of_month(month) as usize);
+    let lawful = |byte: &u8| *byte <= 100 || *byte == NO_RATE;
+    rates.iter().all(lawful) && past.iter().all(|byte| *byte == NO_RATE)
+}
+
+/// The blocks of a store of 01's length, each with its month.
+fn blocks<'a>(unit: &'a Unit, store: &'a [u8]) -> impl Iterator<Item = (u16, &'a [u8])> {
+    let held = unit.held();
+    held.map(|(month, block)| (month, &store[block * BLOCK_LENGTH..][..BLOCK_LENGTH]))
 }
 
 /// Causes 3 and 4, for a unit and the store where it is lent.
@@ -67,7 +70,8 @@ pub fn verdict(unit: &Unit, lent: Option<&[u8]>) -> Result<(), u8> {
     if lent.is_some_and(|store| store.len() != STORE_LENGTH) {
         return Err(3);
     }
-    if !unit_is_sound(unit) || !lent.is_none_or(|store| store_is_sound(unit, store)) {
+    let sound = |store| blocks(unit, store).all(|(month, block)| block_is_sound(month, block));
+    if !unit_is_sound(unit) || !lent.is_none_or(sound) {
         return Err(4);
     }
     Ok(())
@@ -111,19 +115,28 @@ fn file_of(month: u16, block: &[u8]) -> Option<File> {
     })
 }
 
-/// The machine that a sound unit and a sound store stand for, its months as
+/// The schedule that sound blocks of held months stand for, the months as
 /// files.
-pub fn machine_of(unit: &Unit, store: &[u8]) -> Machine {
+pub fn schedule_of<'a>(floor: u16, held: impl Iterator<Item = (u16, &'a [u8])>) -> Schedule {
     let mut files = Vec::new();
     let mut hollow = BTreeSet::new();
-    for (month, block) in unit.held() {
-        match file_of(month, &store[block * BLOCK_LENGTH..][..BLOCK_LENGTH]) {
+    for (month, block) in held {
+        match file_of(month, block) {
             Some(file) => files.push(file),
             None => {
                 hollow.insert(month);
             }
         }
     }
+    Schedule {
+        floor,
+        files,
+        hollow,
+    }
+}
+
+/// The machine that a sound unit and a sound store stand for.
+pub fn machine_of(unit: &Unit, store: &[u8]) -> Machine {
     let flag = |flag: u8| (flag != NO_FLAG).then_some(flag);
     Machine {
         id: unit.id.to_vec(),
@@ -134,11 +147,7 @@ pub fn machine_of(unit: &Unit, store: &[u8]) -> Machine {
         },
         store_length: store.len(),
         clock: (unit.clock_set == 1).then_some(u64::from(unit.clock)),
-        schedule: Schedule {
-            floor: unit.floor,
-            files,
-            hollow,
-        },
+        schedule: schedule_of(unit.floor, blocks(unit, store)),
         requests: Requests {
             wanted_flag: flag(unit.wanted_flag),
             held_flag: flag(unit.held_flag),
