@@ -5,9 +5,9 @@ use mathlib.Core.Bool.{Bool, true, false, cond, not, _&&_, false≢true}
 use native.Mathlib.Omega.{arith}
 use lib.Dec.{leb, ltb, eqb}
 use borrow.Author.Tests.{lt-ltb, le-leb, leb-true, ltb-true, ltb-false}
-use Rattle.rules.specs.Calendar.{timeOfDay, dayLength}
+use Rattle.rules.specs.Calendar.{timeOfDay, dayLength, endOfTime}
 use Rattle.rules.specs.Store.{Requests, soundRequests}
-use Rattle.rules.specs.Machine.{takeUpdate, takeYear, failedUpdate, failedFixed, failed, isClientError, updateWait, refusedWait, windowStart, nextWindow}
+use Rattle.rules.specs.Machine.{updateTime, takeUpdate, takeYear, failedUpdate, failedFixed, failed, isClientError, updateWait, refusedWait, windowStart, nextWindow}
 use Rattle.rules.specs.declared.Kind.{Kind}
 
 pub both : (a b : Bool) → (a && b) ≡ true → (a ≡ true) × (b ≡ true)
@@ -55,16 +55,16 @@ facts-asks q a =
 
 -- ---- a failure
 
-window-below : (d : ℕ) → windowStart d < 86400
+window-below : (d : ℕ) → windowStart d < dayLength
 unfolding windowStart
 window-below d = omega arith
 
-next-below : (d t : ℕ) → nextWindow d t ≤ t + 86400
+next-below : (d t : ℕ) → nextWindow d t ≤ t + dayLength
 unfolding nextWindow
 next-below d t = go (ltb t (t - timeOfDay t + windowStart d)) refl
   where
     go : (x : Bool) → ltb t (t - timeOfDay t + windowStart d) ≡ x
-        → cond x (t - timeOfDay t + windowStart d) (t - timeOfDay t + windowStart d + dayLength) ≤ t + 86400
+        → cond x (t - timeOfDay t + windowStart d) (t - timeOfDay t + windowStart d + dayLength) ≤ t + dayLength
     go true e = omega (arith, window-below d)
     go false e = omega (arith, ltb-false t (t - timeOfDay t + windowStart d) e)
 
@@ -72,7 +72,7 @@ wait-most : (x : Bool) → cond x refusedWait updateWait ≤ 86400
 wait-most true = omega arith
 wait-most false = omega arith
 
-module _ (t : ℕ) (below : t < 3155760000) (q : Requests) (a : Asks q) where
+module _ (t : ℕ) (below : t < endOfTime) (q : Requests) (a : Asks q) where
   pub update-asks : (status : ℕ) → Asks (failedUpdate t status q)
   unfolding failedUpdate
   update-asks status = record {
@@ -107,18 +107,28 @@ module _ (t : ℕ) (below : t < 3155760000) (q : Requests) (a : Asks q) where
 
 -- ---- a file
 
+time-most : (clock next : ℕ) → clock < endOfTime → next < endOfTime → updateTime clock next < endOfTime + 172800
+unfolding updateTime
+time-most clock next a b = omega arith
+
 module _ (q : Requests) (a : Asks q) where
   pub year-asks : (digit : ℕ) → digit ≤ 9 → Asks (takeYear digit q)
   unfolding takeYear
   year-asks digit l = record { wanted = a .wanted; held = omega arith; failures = omega arith; fixed = omega arith; update = a .update }
 
-  pub taken-asks : (flag next : ℕ) → flag ≤ 9 → next < 3155760000 → Asks (takeUpdate flag next q)
+  pub taken-asks : (clock flag next : ℕ) → clock < endOfTime → flag ≤ 9 → next < endOfTime → Asks (takeUpdate clock flag next q)
   unfolding takeUpdate
-  taken-asks flag next l b = go (eqb flag (q .wantedFlag))
+  taken-asks clock flag next low l b = go (eqb flag (q .wantedFlag))
     where
+      u : ℕ
+      u = updateTime clock next
+
+      until : u < endOfTime + 172800
+      until = time-most clock next low b
+
       go : (x : Bool)
           → Asks (cond x
-          (record { wantedFlag = q .wantedFlag; heldFlag = q .heldFlag; failures = q .failures; fixedAt = q .fixedAt; updateAt = next })
-          (record { wantedFlag = flag; heldFlag = q .heldFlag; failures = 0; fixedAt = 0; updateAt = next }))
-      go true = record { wanted = a .wanted; held = a .held; failures = a .failures; fixed = a .fixed; update = omega arith }
-      go false = record { wanted = omega arith; held = a .held; failures = omega arith; fixed = omega arith; update = omega arith }
+          (record { wantedFlag = q .wantedFlag; heldFlag = q .heldFlag; failures = q .failures; fixedAt = q .fixedAt; updateAt = u })
+          (record { wantedFlag = flag; heldFlag = q .heldFlag; failures = 0; fixedAt = 0; updateAt = u }))
+      go true = record { wanted = a .wanted; held = a .held; failures = a .failures; fixed = a .fixed; update = until }
+      go false = record { wanted = omega arith; held = a .held; failures = omega arith; fixed = omega arith; update = until }

@@ -7,8 +7,10 @@ use mathlib.Core.Option.{none, some}
 use lib.Dec.{eqb}
 use lib.ListN.{length}
 use Rattle.rules.specs.Plant.{Settings, plantId, macAddress, validSettings, installing}
-use Rattle.rules.specs.Store.{storeLength, freshValues}
+use Rattle.rules.specs.Store.{storeLength, freshValues, blockCount}
 use Rattle.rules.specs.Causes.{Reply}
+
+use Rattle.pool.specs.Blocks.{allFree}
 use Rattle.rules.specs.Machine.{Call, freshMachine, replies as machineReplies, after as machineAfter}
 use Rattle.rules.specs.Table.{firstOf}
 use Rattle.rules.specs.Rows.{installRows}
@@ -76,7 +78,7 @@ every-list-installed id mac set e store cs =
     (sym (state-of id mac set e store))
     (every-list (plantOf id mac set) (valid-of id mac set e) store cs)
 
-all-free : allBelow 16 (bit 65535) ≡ true
+all-free : allBelow blockCount (bit allFree) ≡ true
 unfolding allBelow
 all-free = refl
 
@@ -89,7 +91,7 @@ fresh-values p = record {
   clock = refl;
   floor = refl;
   held = refl;
-  free = λ b l. all-at 16 (bit 65535) all-free b l;
+  free = λ b l. all-at blockCount (bit allFree) all-free b l;
   requests = refl;
   command = refl;
 }

@@ -5,6 +5,7 @@ use plant::Plant;
 use pool::Pool;
 use polling::Requests;
 use rules::Answer;
+use rules::BLOCK_COUNT;
 use unit::Clock;
 use unit::Done;
 use unit::Installed;
@@ -27,7 +28,7 @@ pub struct HeldUnit {
     pub command: u32,
     pub fixed_at: u64,
     pub update_at: u64,
-    pub months: [u16; 16],
+    pub months: [u16; BLOCK_COUNT],
     pub free: u16,
 }
 

@@ -3,7 +3,7 @@ ghost use mathlib.Core.Path.{_≡_};
 ghost use mathlib.Core.Bool.{cond};
 ghost use Prim.Native.Nat.{_≤_};
 ghost use Rattle.rules.specs.Store.{soundRequests, freshRequests};
-ghost use Rattle.rules.specs.Machine.{takeUpdate, takeYear, failedUpdate, failedFixed, failed, isStatus, isClientError, updateWait, refusedWait, windowStart, inWindow, nextWindow};
+ghost use Rattle.rules.specs.Machine.{updateTime, takeUpdate, takeYear, failedUpdate, failedFixed, failed, isStatus, isClientError, updateWait, refusedWait, windowStart, inWindow, nextWindow};
 ghost use Rattle.polling.specs.Requests.{requestsOf, requestsFrom};
 ghost use Rattle.polling.specs.Due.{dueFor};
 use rules::Due;
@@ -104,6 +104,13 @@ fn next_window(digit: u8, clock: u32) -> u64
     }
 }
 
+// When an update is asked for after a 203: at its next access, whatever the clock.
+fn update_time(clock: u32, next: u32) -> u64
+    ensures { λ r. ⌜ r ≡ updateTime clock next ⌝ }
+{
+    next as u64
+}
+
 impl Requests {
     // Those of a fresh unit.
     pub fn fresh() -> Requests
@@ -128,17 +135,18 @@ impl Requests {
             & (self.update_at < LATEST)
     }
 
-    // After a 203 with its flag and its next access.
-    pub fn take_update(self, flag: u8, next: u32) -> Requests
-        ensures { λ r. ⌜ r ≡ requestsFrom (takeUpdate flag next (requestsOf self)) ⌝ }
+    // After a 203 with its flag and its next access, at the clock.
+    pub fn take_update(self, clock: u32, flag: u8, next: u32) -> Requests
+        ensures { λ r. ⌜ r ≡ requestsFrom (takeUpdate clock flag next (requestsOf self)) ⌝ }
     {
+        let update_at = update_time(clock, next);
         if flag == self.wanted_flag {
             return Requests {
                 wanted_flag: self.wanted_flag,
                 held_flag: self.held_flag,
                 failures: self.failures,
                 fixed_at: self.fixed_at,
-                update_at: next as u64,
+                update_at,
             };
         }
         Requests {
@@ -146,7 +154,7 @@ impl Requests {
             held_flag: self.held_flag,
             failures: 0,
             fixed_at: 0,
-            update_at: next as u64,
+            update_at,
         }
     }
 
