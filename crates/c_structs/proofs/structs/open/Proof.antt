@@ -1,4 +1,4 @@
--- `held::structs::open` meets its contract. Assumes nothing.
+-- `c_structs::structs::open` meets its contract. Assumes nothing.
 use Rattle.c_structs.specs.Held.{opened}
 use mathlib.Core.Path.{refl}
 use borrow.Author.Needs.{needs}

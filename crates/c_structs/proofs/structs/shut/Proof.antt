@@ -1,4 +1,4 @@
--- `held::structs::shut` meets its contract. Assumes nothing.
+-- `c_structs::structs::shut` meets its contract. Assumes nothing.
 use Rattle.c_structs.specs.Held.{shutOf}
 use mathlib.Core.Path.{refl}
 use borrow.Author.Needs.{needs}
