@@ -65,8 +65,12 @@ module _ (u : Unit) (name body : List ℕ) where
       sym (first-before (takenRows (u .plant .id) name body) _ c (sym (take-first (u .plant .id) name body) ∙ ap causeOf e))
   outcome-first good (file x) e =
       let parsed = take-accepts (u .plant .id) name body x .0 e .1 in
-      rw (first-after (takenRows (u .plant .id) name body) (row Cause.Full (fullBreaks u (parseName name) body) ∷ []) (sym (take-first (u .plant .id) name body) ∙ ap causeOf e),
-        full-row x parsed, full-is u good x (taken-good (u .plant .id) name body x e), full-cause x u) refl
+      rw (
+        first-after (takenRows (u .plant .id) name body) (row Cause.Full (fullBreaks u (parseName name) body) ∷ []) (sym (take-first (u .plant .id) name body) ∙ ap causeOf e),
+        full-row x parsed,
+        full-is u good x (taken-good (u .plant .id) name body x e),
+        full-cause x u,
+      ) refl
 
 -- 4 of a unit with a store
 lent-row : (s : State) → (not (isSound (s .unit)) || not (soundStore (heldOf (s .unit .pool)) (s .store))) ≡ soundRow (s .unit) (s .store) .applies
@@ -99,7 +103,7 @@ rows-same command s = rw (or-false (not (isSound (s .unit)))) refl
 rows-same freeBlocks s = rw (or-false (not (isSound (s .unit)))) refl
 
 -- in the order of their places
-pub rows-rise : (c : Call) (s : State) → rising (callRows c s) ≡ true
+rows-rise : (c : Call) (s : State) → rising (callRows c s) ≡ true
 unfolding callRows takenRows
 rows-rise (tick t) s = refl
 rows-rise clockLost s = refl

@@ -6,7 +6,6 @@ use mathlib.Core.Option.{Option, none, some}
 use lib.Dec.{leb}
 use Rattle.rules.specs.Calendar.{slotOf}
 use Rattle.rules.specs.Plant.{Settings, lastDigit, percent}
-
 use Rattle.rules.specs.Machine.{raisedFloor, approach, target, failed}
 use Rattle.rules.specs.Table.{firstOf}
 use Rattle.rules.specs.declared.Cause.{Cause}
@@ -19,10 +18,8 @@ use Rattle.rules.specs.declared.Kind.{Kind}
 use Rattle.plant.specs.Plant.{settingsOf}
 use Rattle.pool.specs.Blocks.{releaseOf, freeCount}
 use Rattle.schedule.specs.Stored.{storedRate}
-
 use Rattle.polling.specs.Requests.{requestsOf, requestsFrom}
 use Rattle.polling.specs.Due.{dueFor}
-
 use Rattle.unit.specs.Rows.{lengthRow, unitRow, soundRow, clockRow, tickRow, slotRow, statusRow}
 use Rattle.unit.specs.declared.Unit.{Unit}
 use Rattle.unit.specs.declared.Done.{Done}
