@@ -85,7 +85,20 @@ enum jag_cause {
     JAG_ERROR_FILE = 16    /* error file breaks its form */
 };
 
-/* A unit: 120 bytes at a multiple of 8, of which the last 6 are padding. Made by jag_install; to be kept, not to be written to.
+/* What an installer sets. Any values may be given, and none is cut: one that is out of its range is refused. */
+struct jag_settings {
+    uint64_t panel;       /* W, 1 to 2,000,000 */
+    uint64_t inverter;    /* W, 1 to 2,000,000 */
+    uint64_t minutes;     /* of a ramp over 100%, 5 to 10 */
+};
+
+/* The settings of these values. A setting that is added later gets here the value that units without it have. */
+static inline struct jag_settings jag_settings_of(uint64_t panel, uint64_t inverter, uint64_t minutes) {
+    struct jag_settings settings = {panel, inverter, minutes};
+    return settings;
+}
+
+/* A unit: 128 bytes at a multiple of 8, of which the 2 before clock are padding. Made by jag_install; to be kept, not to be written to.
  * Padding, here and in the other structs, is not looked at and not kept: it may hold anything after a call, a refused one too. So units
  * are compared field by field, not by memcmp; of a unit that is saved and brought back the fields count. */
 struct jag_unit {
@@ -96,15 +109,13 @@ struct jag_unit {
     uint8_t failures;     /* of the fixed request, 0 to 5 */
     uint8_t clock_set;    /* 0: the clock is unset, and then clock is 0; 1: it is at the second clock */
     uint16_t floor;       /* months below it are given up */
-    uint32_t panel;       /* W */
-    uint32_t inverter;    /* W */
-    uint32_t minutes;     /* of a ramp over 100% */
+    uint16_t months[16];  /* month of each block that is not free */
+    uint16_t free;        /* bit b is 1 where block b is free */
     uint32_t clock;
     uint32_t command;     /* parts; 6,000 * minutes of them are 100% */
     uint64_t fixed_at;    /* second from which the fixed schedule may be asked for again */
     uint64_t update_at;   /* second from which the update is due */
-    uint16_t months[16];  /* month of each block that is not free */
-    uint16_t free;        /* bit b is 1 where block b is free */
+    struct jag_settings settings;
 };
 
 /* The unit after a call, and 0 or the cause of the refusal. */
@@ -181,7 +192,7 @@ struct jag_places {
 
 /* A fresh unit, or 1, 2 and a unit of which every call is refused with 3 or 4. The store needs no filling: it may hold anything. */
 struct jag_done jag_install(const uint8_t *id, size_t id_length, const uint8_t *mac, size_t mac_length,
-                            uint64_t panel, uint64_t inverter, uint64_t minutes);
+                            struct jag_settings settings);
 
 /* The clock is at this second, whatever it was: 3, 4, 6. To be called each second while the clock is good; may jump. */
 struct jag_done jag_tick(struct jag_unit unit, uint64_t second, const uint8_t *store, size_t store_length);
@@ -247,6 +258,10 @@ struct jag_error jag_error_file(const uint8_t *file, size_t file_length);
 
 /* The layout is fixed; a compiler that lays it out otherwise is refused here. */
 #define JAG_AT(type, field, place) JAG_ASSERT(offsetof(struct type, field) == (place), #type "." #field)
+JAG_AT(jag_settings, panel, 0);
+JAG_AT(jag_settings, inverter, 8);
+JAG_AT(jag_settings, minutes, 16);
+JAG_ASSERT(sizeof(struct jag_settings) == 24, "jag_settings");
 JAG_AT(jag_unit, id, 0);
 JAG_AT(jag_unit, mac, 26);
 JAG_AT(jag_unit, wanted_flag, 38);
@@ -254,19 +269,17 @@ JAG_AT(jag_unit, held_flag, 39);
 JAG_AT(jag_unit, failures, 40);
 JAG_AT(jag_unit, clock_set, 41);
 JAG_AT(jag_unit, floor, 42);
-JAG_AT(jag_unit, panel, 44);
-JAG_AT(jag_unit, inverter, 48);
-JAG_AT(jag_unit, minutes, 52);
-JAG_AT(jag_unit, clock, 56);
-JAG_AT(jag_unit, command, 60);
-JAG_AT(jag_unit, fixed_at, 64);
-JAG_AT(jag_unit, update_at, 72);
-JAG_AT(jag_unit, months, 80);
-JAG_AT(jag_unit, free, 112);
-JAG_ASSERT(sizeof(struct jag_unit) == 120, "jag_unit");
+JAG_AT(jag_unit, months, 44);
+JAG_AT(jag_unit, free, 76);
+JAG_AT(jag_unit, clock, 80);
+JAG_AT(jag_unit, command, 84);
+JAG_AT(jag_unit, fixed_at, 88);
+JAG_AT(jag_unit, update_at, 96);
+JAG_AT(jag_unit, settings, 104);
+JAG_ASSERT(sizeof(struct jag_unit) == 128, "jag_unit");
 JAG_AT(jag_done, unit, 0);
-JAG_AT(jag_done, cause, 120);
-JAG_ASSERT(sizeof(struct jag_done) == 128, "jag_done");
+JAG_AT(jag_done, cause, 128);
+JAG_ASSERT(sizeof(struct jag_done) == 136, "jag_done");
 JAG_AT(jag_number, cause, 0);
 JAG_AT(jag_number, value, 4);
 JAG_ASSERT(sizeof(struct jag_number) == 8, "jag_number");

@@ -8,6 +8,8 @@
 
 #define DAY 86400u
 #define SLOT 1800u
+/* The first number that 32 bits do not hold. */
+#define WIDE (1ull << 32)
 
 /* 2026-03-27 00:00:00, day 9,582 from 2000-01-01. */
 static const uint64_t MIDNIGHT = 9582ull * DAY;
@@ -81,10 +83,11 @@ static void print_unit(struct jag_unit unit) {
     for (size_t i = 0; i < 26; i++) {
         printf("%u", unit.id[i]);
     }
-    printf(", mac %.12s, w %u, h %u, k %u, clock set %u, floor %u, panel %u, inverter %u, minutes %u, clock %u, command %u",
-           (const char *)unit.mac, unit.wanted_flag, unit.held_flag, unit.failures, unit.clock_set, unit.floor, unit.panel,
-           unit.inverter, unit.minutes, unit.clock, unit.command);
-    printf(", f %llu, u %llu, months", (unsigned long long)unit.fixed_at, (unsigned long long)unit.update_at);
+    printf(", mac %.12s, w %u, h %u, k %u, clock set %u, floor %u, clock %u, command %u", (const char *)unit.mac,
+           unit.wanted_flag, unit.held_flag, unit.failures, unit.clock_set, unit.floor, unit.clock, unit.command);
+    printf(", f %llu, u %llu, panel %llu, inverter %llu, minutes %llu, months", (unsigned long long)unit.fixed_at,
+           (unsigned long long)unit.update_at, (unsigned long long)unit.settings.panel,
+           (unsigned long long)unit.settings.inverter, (unsigned long long)unit.settings.minutes);
     for (unsigned b = 0; b < JAG_BLOCK_COUNT; b++) {
         if ((unit.free >> b & 1) == 0) {
             printf(" %u:%u", unit.months[b], b);
@@ -148,19 +151,20 @@ static struct jag_unit run(struct jag_unit unit, uint64_t until) {
 static int same(struct jag_unit a, struct jag_unit b) {
     return memcmp(a.id, b.id, 26) == 0 && memcmp(a.mac, b.mac, 12) == 0 && a.wanted_flag == b.wanted_flag
            && a.held_flag == b.held_flag && a.failures == b.failures && a.clock_set == b.clock_set && a.floor == b.floor
-           && a.panel == b.panel && a.inverter == b.inverter && a.minutes == b.minutes && a.clock == b.clock
-           && a.command == b.command && a.fixed_at == b.fixed_at && a.update_at == b.update_at
+           && a.settings.panel == b.settings.panel && a.settings.inverter == b.settings.inverter
+           && a.settings.minutes == b.settings.minutes && a.clock == b.clock && a.command == b.command && a.fixed_at == b.fixed_at && a.update_at == b.update_at
            && memcmp(a.months, b.months, sizeof a.months) == 0 && a.free == b.free;
 }
 
-/* Units that were overwritten: each call refuses them and hands back what came in. */
+/* Units that were overwritten: each call refuses them and hands back what came in. A setting whose low 32 bits are the old one is another. */
 static void overwritten(struct jag_unit unit) {
-    struct jag_unit mark = unit, unset = unit, floor = unit;
+    struct jag_unit mark = unit, unset = unit, floor = unit, wide = unit;
     mark.clock_set = 7;
     unset.clock_set = 0;
     floor.floor = 1200;
-    struct jag_unit spoilt[] = {mark, unset, floor};
-    for (size_t i = 0; i < 3; i++) {
+    wide.settings.inverter += WIDE;
+    struct jag_unit spoilt[] = {mark, unset, floor, wide};
+    for (size_t i = 0; i < 4; i++) {
         struct jag_done tick = jag_tick(spoilt[i], unit.clock, store, sizeof store);
         struct jag_done lost = jag_clock_lost(spoilt[i]);
         struct jag_done update = jag_update_failed(spoilt[i], 0);
@@ -174,7 +178,7 @@ static void overwritten(struct jag_unit unit) {
 static void empty(struct jag_unit unit) {
     const uint8_t *name = (const uint8_t *)UPDATE_NAME;
     printf("empty: install %u, tick %u, take %u and %u, ceiling %u, check %u, request %u and %u, read %u and %u, read for %u, write %u, error file %u, record %u, copy %u\n",
-           jag_install(NULL, 0, NULL, 0, 4000, 5500, 5).cause, jag_tick(unit, unit.clock, NULL, 0).cause,
+           jag_install(NULL, 0, NULL, 0, jag_settings_of(4000, 5500, 5)).cause, jag_tick(unit, unit.clock, NULL, 0).cause,
            jag_take_file(unit, NULL, 0, NULL, 0, NULL, 0).cause, jag_take_file(unit, name, 55, NULL, 0, store, sizeof store).cause,
            jag_ceiling(unit, 0, NULL, 0).cause, jag_check(unit, NULL, 0), jag_request(unit, NULL, 0, NULL, 0).cause,
            jag_request(unit, (const uint8_t *)"0000", 4, NULL, 0).cause, jag_read(NULL, 0, NULL, 0).cause,
@@ -283,10 +287,14 @@ static struct jag_unit night(struct jag_unit unit) {
 
 int main(void) {
     memset(store, 0xA5, sizeof store);
-    struct jag_done refused = jag_install(ID, 25, MAC, sizeof MAC, 4000, 5500, 5);
+    struct jag_done refused = jag_install(ID, 25, MAC, sizeof MAC, jag_settings_of(4000, 5500, 5));
     printf("install with 25 digits: cause %u, then tick: cause %u\n", refused.cause,
            jag_tick(refused.unit, 0, store, sizeof store).cause);
-    struct jag_done installed = jag_install(ID, sizeof ID, MAC, sizeof MAC, 4000, 5500, 5);
+    printf("install with a wide setting: cause %u, %u, %u\n",
+           jag_install(ID, sizeof ID, MAC, sizeof MAC, jag_settings_of(WIDE + 4000, 5500, 5)).cause,
+           jag_install(ID, sizeof ID, MAC, sizeof MAC, jag_settings_of(4000, WIDE + 5500, 5)).cause,
+           jag_install(ID, sizeof ID, MAC, sizeof MAC, jag_settings_of(4000, 5500, WIDE + 5)).cause);
+    struct jag_done installed = jag_install(ID, sizeof ID, MAC, sizeof MAC, jag_settings_of(4000, 5500, 5));
     struct jag_unit unit = installed.unit;
     printf("install: cause %u\n", installed.cause);
     print_unit(unit);

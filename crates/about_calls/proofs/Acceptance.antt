@@ -61,7 +61,7 @@ few-months (suc k) p = go (isFree p k) (few-months k p)
 
 pub sound-pool : (u : Unit) → isSound u ≡ true → Sound (u .pool) (u .floor)
 sound-pool u e =
-    let q = Rattle.rules.specs.Store.soundRequests (Rattle.polling.specs.Requests.requestsOf (u .requests)) in
+    let q = Rattle.rules.specs.Store.soundRequests (Rattle.plant.specs.Plant.settingsOf (u .plant)) (Rattle.polling.specs.Requests.requestsOf (u .requests)) in
     let c = Rattle.rules.specs.Store.soundClock (Rattle.unit.specs.Values.clockOf (u .clock)) in
     let v = Rattle.plant.specs.Plant.validPlant (u .plant) && ltb (u .floor) monthCount in
     let s = soundPool (u .pool) (u .floor) in

@@ -2,16 +2,12 @@
 use Prim.Native.Nat.{ℕ}
 use mathlib.Core.Path.{_≡_, refl, sym, ap, _∙_, subst}
 use mathlib.Core.Bool.{Bool, true, false, cond, not, _&&_}
-use mathlib.Core.List.{List, [], _∷_, map}
+use mathlib.Core.List.{List, []}
 use mathlib.Core.Option.{none, some}
-use lib.Dec.{eqb}
-use lib.ListN.{length}
 use Rattle.rules.specs.Plant.{Settings, plantId, macAddress, validSettings, installing}
-use Rattle.rules.specs.Store.{storeLength, freshValues, blockCount}
-use Rattle.rules.specs.Causes.{Reply}
-
+use Rattle.rules.specs.Store.{freshValues, blockCount}
 use Rattle.pool.specs.Blocks.{allFree}
-use Rattle.rules.specs.Machine.{Call, freshMachine, replies as machineReplies, after as machineAfter}
+use Rattle.rules.specs.Machine.{freshMachine, replies as machineReplies, after as machineAfter}
 use Rattle.rules.specs.Table.{firstOf}
 use Rattle.rules.specs.Rows.{installRows}
 use Rattle.rules.specs.declared.Answer.{Answer}
@@ -26,15 +22,14 @@ use Rattle.pool.specs.Held.{heldBelow}
 use Rattle.pool.proofs.BelowLaws.{all-at}
 use Rattle.unit.specs.Values.{valuesOf, isSound, freshUnit, installedUnit}
 use Rattle.unit.specs.Request.{requestOf}
-use Rattle.taking.specs.Step.{State, step, replies, after}
+use Rattle.taking.specs.Step.{State, replies, after}
 use Rattle.unit.specs.declared.Unit.{Unit}
 use Rattle.unit.proofs.CallLaws.{sound-is}
-use Rattle.about_calls.specs.Theorem.{fresh, Holds, installedState, toldBy, EveryListInstalled, lent, unsoundReply}
-use Rattle.about_calls.specs.Refusals.{callRows}
+use Rattle.about_calls.specs.Theorem.{fresh, Holds, installedState, toldBy, EveryListInstalled}
 use Rattle.about_calls.specs.Installed.{InstallRefuses, InstallAccepts, SameValues, InstallFresh, RefusedInstall}
 use Rattle.about_calls.proofs.EveryList.{every-list}
 use Rattle.about_calls.proofs.Full.{answerOf, causeIn}
-use Rattle.about_calls.proofs.Refusals.{rows-same, step-refuses}
+use Rattle.about_calls.proofs.Unsound.{unsound-list}
 
 -- ---- 1 and 2
 
@@ -110,26 +105,6 @@ install-fresh id mac set e = record {
 none-sound : isSound (freshUnit noPlant) ≡ false
 unfolding freshUnit
 none-sound = sound-is (freshUnit noPlant) ∙ rw no-plant refl
-
-module _ (s : State) (bad : isSound (s .unit) ≡ false) where
-  unsound-first : (c : Call) → firstOf (callRows c s) ≡ some (cond (lent c && not (eqb (length (s .store)) storeLength)) Cause.StoreLength Cause.Unsound)
-  unfolding firstOf callRows
-  unsound-first c = rw bad (go (lent c && not (eqb (length (s .store)) storeLength)))
-    where
-      go : (t : Bool) → cond t (some Cause.StoreLength) (some Cause.Unsound) ≡ some (cond t Cause.StoreLength Cause.Unsound)
-      go true = refl
-      go false = refl
-
-  unsound-step : (c : Call) → step c s ≡ (unsoundReply (s .store) c, s)
-  unsound-step c = step-refuses c s _ (rows-same c s ∙ unsound-first c)
-
-  unsound-list : (cs : List Call) → (replies cs s ≡ map (unsoundReply (s .store)) cs) × (after cs s ≡ s)
-  unfolding replies after
-  unsound-list [] = (refl, refl)
-  unsound-list (c ∷ cs) =
-      let r = unsound-list cs in
-      let e = unsound-step c in
-      (rw e (ap (λ (l : List Reply). unsoundReply (s .store) c ∷ l) (r .0)), rw e (r .1))
 
 pub refused-install : RefusedInstall
 unfolding installedUnit installed requestOf

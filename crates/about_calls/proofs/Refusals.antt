@@ -126,7 +126,7 @@ step-refuses (fileTaken name body) s k e =
     (storeBy o (storeWith (takeFile (s .unit .plant .id) name body) (s .store) (s .unit)) (s .store))) e
 step-refuses (failure kind status) s k e = ap (λ (o : Option Cause). stepDone (doneBy o (withFailure kind status (s .unit)) (s .unit)) (s .store)) e
 step-refuses due s k e =
-    ap (λ (o : Option Cause). (ofDue (dueBy o (dueFor (lastDigit (s .unit .plant .id)) (clockTime (s .unit .clock)) (requestsOf (s .unit .requests)))), s)) e
+    ap (λ (o : Option Cause). (ofDue (dueBy o (dueFor (settingsOf (s .unit .plant)) (lastDigit (s .unit .plant .id)) (clockTime (s .unit .clock)) (requestsOf (s .unit .requests)))), s)) e
 step-refuses (ceilingOf slot) s k e =
     ap (λ (o : Option Cause).
     (ofCeiling (ceilingBy o (ceilingAnswer (settingsOf (s .unit .plant)) (storedRate (s .unit .pool) (s .store) slot))), s)) e
@@ -136,9 +136,9 @@ step-refuses freeBlocks s k e =
 
 -- ---- where no row applies
 
-due-answers : (d t : ℕ) (q : Requests) → isRefused (ofDue (dueFor d t q)) ≡ false
+due-answers : (s : Settings) (d t : ℕ) (q : Requests) → isRefused (ofDue (dueFor s d t q)) ≡ false
 unfolding dueFor
-due-answers d t q = go (leb (q .updateAt) t) (asksFixed d t q)
+due-answers s d t q = go (leb (q .updateAt) t) (asksFixed s d t q)
   where
     go : (x y : Bool) → isRefused (ofDue (cond x Due.Update (cond y (Due.Fixed (q .wantedFlag)) Due.Nothing))) ≡ false
     go true y = refl
@@ -157,8 +157,8 @@ step-answers (fileTaken name body) s e =
     ap (λ (o : Option Cause). isRefused (stepDone (doneBy o (taken (takeFile (s .unit .plant .id) name body) (s .store) (s .unit)) (s .unit)) (s .store) .0)) e
 step-answers (failure kind status) s e = ap (λ (o : Option Cause). isRefused (stepDone (doneBy o (withFailure kind status (s .unit)) (s .unit)) (s .store) .0)) e
 step-answers due s e =
-    ap (λ (o : Option Cause). isRefused (ofDue (dueBy o (dueFor (lastDigit (s .unit .plant .id)) (clockTime (s .unit .clock)) (requestsOf (s .unit .requests)))))) e
-    ∙ due-answers _ _ _
+    ap (λ (o : Option Cause). isRefused (ofDue (dueBy o (dueFor (settingsOf (s .unit .plant)) (lastDigit (s .unit .plant .id)) (clockTime (s .unit .clock)) (requestsOf (s .unit .requests)))))) e
+    ∙ due-answers _ _ _ _
 step-answers (ceilingOf slot) s e =
     ap (λ (o : Option Cause). isRefused (ofCeiling (ceilingBy o (ceilingAnswer (settingsOf (s .unit .plant)) (storedRate (s .unit .pool) (s .store) slot))))) e
     ∙ ceiling-answers (storedRate (s .unit .pool) (s .store) slot) (settingsOf (s .unit .plant))

@@ -15,7 +15,7 @@ use Rattle.rules.specs.declared.Command.{Command}
 use Rattle.rules.specs.declared.Due.{Due}
 use Rattle.rules.specs.declared.FreeBlocks.{FreeBlocks}
 use Rattle.rules.specs.declared.Kind.{Kind}
-use Rattle.plant.specs.Plant.{validPlant}
+use Rattle.plant.specs.Plant.{settingsOf, validPlant}
 use Rattle.plant.specs.declared.Plant.{Plant}
 use Rattle.pool.specs.Blocks.{freeCount, isFree}
 use Rattle.pool.specs.Held.{heldOf, soundPool}
@@ -33,14 +33,14 @@ pub sound-is : (u : Unit)
     ≡ (validPlant (u .plant)
     && ltb (u .floor) monthCount
     && soundPool (u .pool) (u .floor)
-    && soundRequests (requestsOf (u .requests))
+    && soundRequests (settingsOf (u .plant)) (requestsOf (u .requests))
     && soundClock (clockOf (u .clock))
-    && leb (u .command) (6000 * u .plant .minutes))
+    && leb (u .command) (6000 * u .plant .settings .minutes))
 unfolding isSound valuesOf soundUnit validPlant soundPool
 sound-is u =
     let months = soundMonths (u .floor) (map (λ h. h .month) (heldOf (u .pool))) in
     let blocks = soundBlocks (isFree (u .pool)) (map (λ h. h .block) (heldOf (u .pool))) in
-    ap (λ (b : Bool). b && soundRequests (requestsOf (u .requests)) && soundClock (clockOf (u .clock)) && leb (u .command) (6000 * u .plant .minutes))
+    ap (λ (b : Bool). b && soundRequests (settingsOf (u .plant)) (requestsOf (u .requests)) && soundClock (clockOf (u .clock)) && leb (u .command) (6000 * u .plant .settings .minutes))
     (and-assoc (validPlant (u .plant) && ltb (u .floor) monthCount) months blocks)
 
 -- the fresh unit, with requests that are the fresh ones
@@ -98,7 +98,7 @@ module _ (u : Unit) where
       failure-status kind status e = rw (good, set, e)
 
       pub failure-done : (kind : Kind) (status : ℕ) → isStatus status ≡ true → (d : ℕ) → d ≡ lastDigit (u .plant .id) → (q : Requests)
-          → q ≡ requestsFrom (failed d kind t status (requestsOf (u .requests)))
+          → q ≡ requestsFrom (failed (settingsOf (u .plant)) d kind t status (requestsOf (u .requests)))
           → failureOf u kind status
           ≡ record {
             unit = record { plant = u .plant; pool = u .pool; requests = q; clock = At t; floor = u .floor; command = u .command };
@@ -107,6 +107,6 @@ module _ (u : Unit) where
       unfolding failureOf firstOf withFailure
       failure-done kind status e d h q k = rw (good, set, e, ← h, k)
 
-      pub due-done : (d : ℕ) → d ≡ lastDigit (u .plant .id) → dueOf u ≡ dueFor d t (requestsOf (u .requests))
+      pub due-done : (d : ℕ) → d ≡ lastDigit (u .plant .id) → dueOf u ≡ dueFor (settingsOf (u .plant)) d t (requestsOf (u .requests))
       unfolding dueOf firstOf
       due-done d h = rw (good, set, ← h)

@@ -96,7 +96,7 @@ unfoldable pub withFailure : Kind → ℕ → Unit → Unit
 withFailure kind status u = record {
   plant = u .plant;
   pool = u .pool;
-  requests = requestsFrom (failed (lastDigit (u .plant .id)) kind (clockTime (u .clock)) status (requestsOf (u .requests)));
+  requests = requestsFrom (failed (settingsOf (u .plant)) (lastDigit (u .plant .id)) kind (clockTime (u .clock)) status (requestsOf (u .requests)));
   clock = u .clock;
   floor = u .floor;
   command = u .command;
@@ -115,7 +115,7 @@ dueBy (some c) a = Due.Refused c
 unfoldable pub dueOf : Unit → Due
 dueOf u =
     dueBy (firstOf (unitRow u ∷ clockRow u ∷ []))
-    (dueFor (lastDigit (u .plant .id)) (clockTime (u .clock)) (requestsOf (u .requests)))
+    (dueFor (settingsOf (u .plant)) (lastDigit (u .plant .id)) (clockTime (u .clock)) (requestsOf (u .requests)))
 
 abbrev pub ceilingAnswer : Settings → Option ℕ → Ceiling
 ceilingAnswer s none = Ceiling.NoRate
