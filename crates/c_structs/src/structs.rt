@@ -31,7 +31,7 @@ pub struct HeldUnit {
     pub failures: u8,
     pub clock_set: u8,
     pub floor: u16,
-    pub months: [u16; 16],
+    pub months: [u16; BLOCK_COUNT],
     pub free: u16,
     pub clock: u32,
     pub command: u32,
