@@ -60,7 +60,7 @@ module _ (s : State) (w : Whole s) where
   whole-good : Good (besideOf s)
   whole-good =
       let p = sound-parts (s .unit) (w .unit) in
-      record { plant = p .plant; requests = p .requests; clock = p .clock; command = leb-true (s .unit .command) (6000 * s .unit .plant .minutes) (p .command) }
+      record { plant = p .plant; requests = p .requests; clock = p .clock; command = leb-true (s .unit .command) (6000 * s .unit .plant .settings .minutes) (p .command) }
 
 -- ---- and back
 

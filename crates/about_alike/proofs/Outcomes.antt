@@ -10,7 +10,7 @@ use Rattle.rules.specs.Calendar.{monthCount}
 use Rattle.rules.specs.Store.{storeLength, soundRequests, soundClock, soundStore}
 use Rattle.rules.specs.Causes.{Reply}
 use Rattle.rules.specs.Machine.{Call}
-use Rattle.plant.specs.Plant.{validPlant}
+use Rattle.plant.specs.Plant.{settingsOf, validPlant}
 use Rattle.plant.specs.declared.Plant.{Plant}
 use Rattle.pool.specs.Held.{heldOf}
 use Rattle.pool.proofs.SoundLaws.{facts-pool}
@@ -35,9 +35,9 @@ pub record Beside : Type 0 where
 -- all of it is sound
 pub record Good (r : Beside) : Type 0 where
   pub plant : validPlant (r .plant) ≡ true
-  pub requests : soundRequests (requestsOf (r .requests)) ≡ true
+  pub requests : soundRequests (settingsOf (r .plant)) (requestsOf (r .requests)) ≡ true
   pub clock : soundClock (clockOf (r .clock)) ≡ true
-  pub command : r .command ≤ 6000 * r .plant .minutes
+  pub command : r .command ≤ 6000 * r .plant .settings .minutes
 
 -- the unit whose pool and store are given, with the view's floor
 abbrev pub unitOf : Beside → View → Stored → Unit
@@ -58,7 +58,7 @@ module _ (r : Beside) (v : View) (good : Good r) (plain : Plain v) (st : Stored)
         pool = facts-pool (st .pool) (v .floor) (h .sound);
         requests = good .requests;
         clock = good .clock;
-        command = le-leb (r .command) (6000 * r .plant .minutes) (good .command);
+        command = le-leb (r .command) (6000 * r .plant .settings .minutes) (good .command);
       })
 
   pub made-full : eqb (length (st .store)) storeLength ≡ true

@@ -15,6 +15,7 @@ use Rattle.rules.specs.declared.Cause.{Cause}
 use Rattle.rules.specs.declared.Due.{Due}
 use Rattle.rules.specs.declared.Kind.{Kind}
 use Rattle.plant.specs.Plant.{settingsOf}
+use Rattle.plant.proofs.Laws.{valid-facts}
 use Rattle.polling.specs.Requests.{requestsOf}
 use Rattle.schedule.specs.Stored.{Stored}
 use Rattle.about_store.proofs.View.{View, Shows}
@@ -56,7 +57,7 @@ module _ (r : Beside) (v : View) (good : Good r) (plain : Plain v) where
       go : (c : Clock) → r .clock ≡ c → Outcome due r v
       go Unset e = same-state due r v good plain (ofDue (Due.Refused Cause.ClockUnset)) (λ st h. ap (λ (x : Due). (ofDue x, made r v st)) (due-unset (unitOf r v st) (sound st h) e))
       go (At t) e =
-          same-state due r v good plain (ofDue (dueFor (lastDigit (r .plant .id)) t (requestsOf (r .requests))))
+          same-state due r v good plain (ofDue (dueFor (settingsOf (r .plant)) (lastDigit (r .plant .id)) t (requestsOf (r .requests))))
           (λ st h. ap (λ (x : Due). (ofDue x, made r v st)) (due-done (unitOf r v st) (sound st h) t e (lastDigit (r .plant .id)) refl))
 
   -- ---- ceiling
@@ -101,7 +102,7 @@ module _ (r : Beside) (v : View) (good : Good r) (plain : Plain v) where
     abbrev reported : ℕ → Beside
     reported t = record {
       plant = r .plant;
-      requests = requestsFrom (failed (lastDigit (r .plant .id)) kind t status (requestsOf (r .requests)));
+      requests = requestsFrom (failed (settingsOf (r .plant)) (lastDigit (r .plant .id)) kind t status (requestsOf (r .requests)));
       clock = At t;
       command = r .command;
     }
@@ -119,14 +120,15 @@ module _ (r : Beside) (v : View) (good : Good r) (plain : Plain v) where
             (λ st h. ap (λ (d : Done). stepDone d (st .store)) (failure-status (unitOf r v st) (sound st h) t e kind status f))
         go (At t) e true f =
             let time : soundClock (clockOf (At t)) ≡ true = ap (λ (c : Clock). soundClock (clockOf c)) (sym e) ∙ good .clock in
+            let range = valid-facts (r .plant) (good .plant) .settings in
             record {
               reply = accepted;
               beside = reported t;
               view = v;
               good = record {
                 plant = good .plant;
-                requests = facts-asks _
-                    (failed-asks t (ltb-true t endOfTime time) (requestsOf (r .requests)) (asks-facts (requestsOf (r .requests)) (good .requests)) (lastDigit (r .plant .id)) kind status);
+                requests = facts-asks _ _
+                    (failed-asks _ range t (ltb-true t endOfTime time) (requestsOf (r .requests)) (asks-facts _ (requestsOf (r .requests)) (good .requests)) (lastDigit (r .plant .id)) kind status);
                 clock = time;
                 command = good .command;
               };

@@ -71,9 +71,9 @@ module _ (r : Beside) (v : View) (good : Good r) (plain : Plain v) (name body : 
     beside-good : Good beside
     beside-good = record {
       plant = good .plant;
-      requests = facts-asks _
-          (file-asks (clockTime (r .clock)) (clock-low (r .clock) (good .clock)) f (requestsOf (r .requests)) (lawful-facts (some (r .plant .id)) f (taken-exactly (r .plant .id) name body f .0 read .0 .fields))
-          (asks-facts (requestsOf (r .requests)) (good .requests)));
+      requests = facts-asks _ _
+          (file-asks _ (clockTime (r .clock)) (clock-low (r .clock) (good .clock)) f (requestsOf (r .requests)) (lawful-facts (some (r .plant .id)) f (taken-exactly (r .plant .id) name body f .0 read .0 .fields))
+          (asks-facts _ (requestsOf (r .requests)) (good .requests)));
       clock = good .clock;
       command = good .command;
     }

@@ -90,7 +90,7 @@ module _ (r : Beside) (v : View) (good : Good r) (plain : Plain v) where
   abbrev goal : ℕ → ℕ
   goal t = target (settingsOf (r .plant)) (now t)
 
-  goal-most : (o : Option ℕ) → ((x : ℕ) → o ≡ some x → x ≤ highestRate) → target (settingsOf (r .plant)) o ≤ 6000 * r .plant .minutes
+  goal-most : (o : Option ℕ) → ((x : ℕ) → o ≡ some x → x ≤ highestRate) → target (settingsOf (r .plant)) o ≤ 6000 * r .plant .settings .minutes
   goal-most none k = parts-most (settingsOf (r .plant)) 0 (omega arith)
   goal-most (some x) k = parts-most (settingsOf (r .plant)) x (k x refl)
 
@@ -106,7 +106,7 @@ module _ (r : Beside) (v : View) (good : Good r) (plain : Plain v) where
           plant = good .plant;
           requests = good .requests;
           clock = lt-ltb t endOfTime l;
-          command = approach-most (6000 * r .plant .minutes) (goal t) (r .command)
+          command = approach-most (6000 * r .plant .settings .minutes) (goal t) (r .command)
               (goal-most (now t) (after .rates (monthOfSlot (slotOf t)) (slotOf t - firstSlot (monthOfSlot (slotOf t))))) (good .command);
         };
         plain = after;

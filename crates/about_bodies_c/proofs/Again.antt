@@ -22,6 +22,7 @@ use Rattle.rules.specs.declared.Summary.{Summary}
 use Rattle.rules.specs.declared.Reading.{Reading}
 use Rattle.rules.specs.declared.Reading.the-variants.{Read, Refused}
 use Rattle.body.proofs.Walk.{count-positive}
+use Rattle.about_files.proofs.Causes.{numbered}
 use Rattle.about_files.proofs.Name.{format-back}
 use Rattle.writer.specs.Fields.{fieldsOf}
 use Rattle.records.specs.Locating.{locate}
@@ -41,22 +42,7 @@ use Rattle.about_bodies_c.specs.Again.{places, copied, fieldsFromC, Agai
 
 -- no cause has the number 0
 positive : (c : Cause) → numberOf c ≡ 0 → ⊥
-positive Cause.PlantId e = omega arith
-positive Cause.Setting e = omega arith
-positive Cause.StoreLength e = omega arith
-positive Cause.Unsound e = omega arith
-positive Cause.ClockUnset e = omega arith
-positive Cause.Range e = omega arith
-positive Cause.Name e = omega arith
-positive Cause.OtherPlant e = omega arith
-positive Cause.Form e = omega arith
-positive Cause.Date e = omega arith
-positive Cause.Rate e = omega arith
-positive Cause.Checksum e = omega arith
-positive Cause.RecordPlant e = omega arith
-positive Cause.Full e = omega arith
-positive Cause.Buffer e = omega arith
-positive Cause.ErrorFile e = omega arith
+positive c e = let n = numbered c .0 in omega arith
 
 -- a format that is not 301 is a schedule's
 scheduled : (f : Format) → (formatNumber f ≡ 301 → ⊥) → isSchedule f ≡ true

@@ -13,6 +13,7 @@ use Rattle.rules.specs.Body.{encodeBody}
 use Rattle.rules.specs.File.{File, file, takeFile, lawful, recordsIn}
 use Rattle.rules.specs.Store.{Held as HeldMonth, storeLength, member, blockCount}
 use Rattle.rules.specs.Machine.{anyRecord, countBelow, one}
+use Rattle.rules.specs.Table.{firstOf}
 use Rattle.about_files.proofs.Reading.{taken-exactly}
 use Rattle.pool.specs.Blocks.{isFree, monthOf, findOf, freeCount}
 use Rattle.pool.specs.Held.{Held, Sound, monthsBelow, heldMonths, heldBelow, soundPool}
@@ -28,7 +29,6 @@ use Rattle.about_store.proofs.Bools.{isnt}
 use Rattle.about_store.proofs.Counts.{count-add, count-list, count-same, member-mem, mem-member}
 use Rattle.about_store.proofs.Laws.{taken-good}
 use Rattle.unit.specs.Values.{isSound}
-use Rattle.unit.specs.Rows.{firstOf}
 use Rattle.taking.specs.Taken.{takeOf, fullRow}
 use Rattle.unit.specs.declared.Unit.{Unit}
 use Rattle.unit.specs.declared.Clock.the-variants.{At}
@@ -61,7 +61,7 @@ few-months (suc k) p = go (isFree p k) (few-months k p)
 
 pub sound-pool : (u : Unit) → isSound u ≡ true → Sound (u .pool) (u .floor)
 sound-pool u e =
-    let q = Rattle.rules.specs.Store.soundRequests (Rattle.polling.specs.Requests.requestsOf (u .requests)) in
+    let q = Rattle.rules.specs.Store.soundRequests (Rattle.plant.specs.Plant.settingsOf (u .plant)) (Rattle.polling.specs.Requests.requestsOf (u .requests)) in
     let c = Rattle.rules.specs.Store.soundClock (Rattle.unit.specs.Values.clockOf (u .clock)) in
     let v = Rattle.plant.specs.Plant.validPlant (u .plant) && ltb (u .floor) monthCount in
     let s = soundPool (u .pool) (u .floor) in

@@ -81,10 +81,10 @@ step-ahead w (fileTaken name body) M h =
     check-ahead (eqb (w .storeLength) storeLength) Cause.StoreLength (atClock (M .clock) done M) M
     (clock-ahead (M .clock) done M (λ t. take-ahead t (takeFile (w .plant) name body) M h) h) h
 step-ahead w (failure kind status) M h =
-    let done : ℕ → Step = λ t. (accepted, withRequests (failed (lastDigit (w .plant)) kind t status (M .requests)) M) in
+    let done : ℕ → Step = λ t. (accepted, withRequests (failed (w .settings) (lastDigit (w .plant)) kind t status (M .requests)) M) in
     clock-ahead (M .clock) (λ t. check (isStatus status) Cause.Range (done t) M) M
     (λ t. check-ahead (isStatus status) Cause.Range (done t) M (requests-ahead _ M h) h) h
-step-ahead w due M h = clock-ahead (M .clock) (λ t. (dueOf (lastDigit (w .plant)) t (M .requests), M)) M (λ t. h) h
+step-ahead w due M h = clock-ahead (M .clock) (λ t. (dueOf (w .settings) (lastDigit (w .plant)) t (M .requests), M)) M (λ t. h) h
 step-ahead w (ceilingOf s) M h =
     let done : ℕ → Step = λ t. check (ltb s slotCount) Cause.Range (ceilingReply (w .settings) (rateOf M s), M) M in
     check-ahead (eqb (w .storeLength) storeLength) Cause.StoreLength (atClock (M .clock) done M) M

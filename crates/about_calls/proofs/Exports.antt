@@ -17,7 +17,7 @@ use Rattle.about_calls.specs.Exports.{heldWith, unitWith, ExportsSay, Ex
 pub exports-say : ExportsSay
 unfolding heldStep
 exports-say = record {
-  install = λ κs id mac panel inverter minutes r e said. said;
+  install = λ κs id mac given r e said. said;
   ticks = λ κs u t store r w said. ap (λ (h : Handed). handedStep h (now store)) said;
   lost = λ κs u store r e said. ap (λ (h : Handed). handedStep h store) said;
   taken = λ κs u name body store r w said. ap₂ handedStep (said .0) (said .1);

@@ -42,7 +42,7 @@ pub record Follows (p : Plant) (n : ℕ) (s : State) (M : Machine) : Type 0 wher
   pub command : s .unit .command ≡ M .command
   -- what the machine's values never leave
   pub time : soundClock (M .clock) ≡ true
-  pub asks : soundRequests (M .requests) ≡ true
+  pub asks : soundRequests (settingsOf p) (M .requests) ≡ true
   pub most : M .command ≤ fullCommand (settingsOf p)
   pub kept : Kept s M
 
@@ -62,7 +62,7 @@ kept-floor s M (agrees e a) = omega (arith, a .floor)
 kept-floor s M (apart e p g h c) = omega (arith, h)
 
 module _ (p : Plant) (valid : validPlant p ≡ true) (n : ℕ) (s : State) (M : Machine) (h : Follows p n s M) where
-  command-least : s .unit .command ≤ 6000 * s .unit .plant .minutes
+  command-least : s .unit .command ≤ 6000 * s .unit .plant .settings .minutes
   command-least = rw (h .command, h .plant) (h .most)
 
   pub follows-sound : isSound (s .unit) ≡ true
@@ -78,7 +78,7 @@ module _ (p : Plant) (valid : validPlant p ≡ true) (n : ℕ) (s : State) (M : 
         h .asks,
         h .clock,
         h .time,
-        le-leb (s .unit .command) (6000 * p .minutes) (rw (h .plant) at command-least),
+        le-leb (s .unit .command) (6000 * p .settings .minutes) (rw (h .plant) at command-least),
       )
 
   -- ---- and what follows holds as the theorem says

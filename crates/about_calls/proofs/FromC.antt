@@ -11,14 +11,14 @@ use Rattle.rules.specs.Machine.{Call, tick, clockLost, fileTaken, failure, due,
 use Rattle.rules.specs.Digits.{allAtMost}
 use Rattle.rules.specs.Plant.{Settings, installing, plantId, checkDigit, weightedSum, macAddress, allHex}
 use Rattle.rules.specs.Store.{storeLength}
+use Rattle.rules.specs.Table.{firstOf}
 use Rattle.rules.specs.declared.Answer.{Answer}
 use Rattle.rules.specs.declared.Cause.{Cause}
-use Rattle.plant.specs.Plant.{validPlant, plantOf, noPlant, installed}
+use Rattle.plant.specs.Plant.{isKept, settingsOf, validPlant, plantOf, noPlant, installed}
 use Rattle.plant.specs.declared.Installed.{Installed}
 use Rattle.plant.specs.declared.Plant.{Plant}
 use Rattle.plant.proofs.Laws.{accepted-keeps, accepted-values}
 use Rattle.unit.specs.Values.{isSound, freshUnit, installedUnit}
-use Rattle.unit.specs.Rows.{firstOf}
 use Rattle.unit.specs.Request.{requestOf}
 use Rattle.unit.specs.Calls.{tickOf, lostOf, failureOf, dueOf, ceilingOf as ceilingAt, commandOf, freeOf}
 use Rattle.taking.specs.Taken.{takeOf, storeAfterTake}
@@ -30,6 +30,7 @@ use Rattle.about_calls.specs.Lists.{HeldState, heldInstall, heldStep, he
 use Rattle.about_calls.specs.Theorem.{fresh, unsoundReply}
 use Rattle.about_calls.specs.FromC.{EveryListFromC, InstalledFromC, AllRefused, UnsoundFromC, RefusedFromC}
 use Rattle.about_calls.proofs.Lists.{cause-refused, same-from-c}
+use Rattle.about_calls.proofs.Unsound.{all-refused}
 use Rattle.about_calls.proofs.EveryList.{every-list}
 
 pub every-list-from-c : EveryListFromC
@@ -76,50 +77,16 @@ installed-from-c id mac set zero store cs =
 
 -- ---- structs that stand for no sound unit
 
-module _ (u : HeldUnit) (bad : isSound (opened u) ≡ false) (store : List ℕ) where
-  abbrev s : HeldState
-  s = record { unit = u; store = store }
-
-  step-refused : (c : Call) → heldStep c s ≡ (unsoundReply store c, s)
-  unfolding heldStep tickOf lostOf takeOf storeAfterTake failureOf dueOf ceilingAt commandOf freeOf firstOf handed
-  step-refused (tick t) = go (eqb (length store) storeLength) refl
-    where
-      go : (b : Bool) → eqb (length store) storeLength ≡ b → heldStep (tick t) s ≡ (unsoundReply store (tick t), s)
-      go true e = rw (e, bad)
-      go false e = rw e
-  step-refused clockLost = rw bad
-  step-refused (fileTaken name body) = go (eqb (length store) storeLength) refl
-    where
-      go : (b : Bool) → eqb (length store) storeLength ≡ b → heldStep (fileTaken name body) s ≡ (unsoundReply store (fileTaken name body), s)
-      go true e = rw (e, bad)
-      go false e = rw e
-  step-refused (failure kind status) = rw bad
-  step-refused due = rw bad
-  step-refused (ceilingOf slot) = go (eqb (length store) storeLength) refl
-    where
-      go : (b : Bool) → eqb (length store) storeLength ≡ b → heldStep (ceilingOf slot) s ≡ (unsoundReply store (ceilingOf slot), s)
-      go true e = rw (e, bad)
-      go false e = rw e
-  step-refused command = rw bad
-  step-refused freeBlocks = rw bad
-
-  list-refused : (cs : List Call) → (heldReplies cs s ≡ map (unsoundReply store) cs) × (heldAfter cs s ≡ s)
-  unfolding heldReplies heldAfter
-  list-refused [] = (refl, refl)
-  list-refused (c ∷ cs) =
-      let rest = list-refused cs in
-      rw (step-refused c) (ap (λ (rs : List Reply). unsoundReply store c ∷ rs) (rest .0), rest .1)
-
-  all-refused : AllRefused s
-  unfolding requestOf
-  all-refused = (list-refused, λ segment room. rw bad refl)
-
 pub unsound-from-c : UnsoundFromC
 unsound-from-c u bad store = all-refused u bad store
 
 no-plant : validPlant noPlant ≡ false
 unfolding validPlant plantId allAtMost checkDigit weightedSum macAddress allHex
 no-plant = refl
+
+none-kept : isKept (settingsOf (freshUnit noPlant .plant)) ≡ true
+unfolding freshUnit isKept
+none-kept = refl
 
 no-sound : isSound (freshUnit noPlant) ≡ false
 unfolding freshUnit
@@ -128,4 +95,4 @@ no-sound = rw (sound-is (freshUnit noPlant), no-plant)
 pub refused-from-c : RefusedFromC
 refused-from-c id mac set other store =
     let unit : heldInstall id mac set .unit ≡ shutOf (freshUnit noPlant) = hands id mac set noPlant (refuses id mac set other) in
-    rw unit (unsound-from-c (shutOf (freshUnit noPlant)) (rw (unit-back (freshUnit noPlant)) no-sound) store)
+    rw unit (unsound-from-c (shutOf (freshUnit noPlant)) (rw (unit-back (freshUnit noPlant) none-kept) no-sound) store)

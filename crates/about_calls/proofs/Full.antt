@@ -12,9 +12,11 @@ use Rattle.rules.specs.Name.{encodeName}
 use Rattle.rules.specs.Body.{encodeBody}
 use Rattle.rules.specs.File.{File, file, takeFile, recordsIn}
 use Rattle.rules.specs.Store.{storeLength, soundStore, blockCount}
+use Rattle.rules.specs.Table.{firstOf}
 use Rattle.rules.specs.declared.Answer.{Answer}
 use Rattle.rules.specs.declared.Cause.{Cause}
 use Rattle.about_files.proofs.Reading.{taken-exactly}
+use Rattle.about_files.proofs.Table.{answerBy}
 use Rattle.pool.specs.Blocks.{freeCount}
 use Rattle.pool.specs.Held.{heldOf}
 use Rattle.pool.proofs.Laws.{free-is}
@@ -22,7 +24,7 @@ use Rattle.schedule.specs.Stored.{missing}
 use Rattle.about_store.specs.Run.{GoodFile, runStart, runLength}
 use Rattle.about_store.proofs.Laws.{taken-good}
 use Rattle.unit.specs.Values.{isSound}
-use Rattle.unit.specs.Rows.{firstOf, isUnset}
+use Rattle.unit.specs.Rows.{isUnset}
 use Rattle.unit.specs.Calls.{doneBy}
 use Rattle.taking.specs.Taken.{takeRows, takeOf, taken, fullRow}
 use Rattle.unit.specs.declared.Unit.{Unit}
@@ -51,8 +53,11 @@ full-is u good f g = go (ltb blockCount (together u f)) refl
 -- ---- what a call answers, by the first row that applies
 
 abbrev pub answerOf : Option Cause → Answer
-answerOf none = Answer.Accepted
-answerOf (some c) = Answer.Refused c
+answerOf = answerBy Answer.Refused Answer.Accepted
+
+abbrev pub causeIn : Answer → Option Cause
+causeIn Answer.Accepted = none
+causeIn (Answer.Refused c) = some c
 
 pub done-answer : (o : Option Cause) (new old : Unit) → doneBy o new old .answer ≡ answerOf o
 done-answer none new old = refl

@@ -37,17 +37,17 @@ module _ (w : Told) (M : Machine) where
 
   pub due-unset : M .clock ≡ none → step w due M ≡ refusal Cause.ClockUnset M
   unfolding step
-  due-unset e = ap (λ (o : Option ℕ). atClock o (λ t. (dueOf (lastDigit (w .plant)) t (M .requests), M)) M) e
+  due-unset e = ap (λ (o : Option ℕ). atClock o (λ t. (dueOf (w .settings) (lastDigit (w .plant)) t (M .requests), M)) M) e
 
-  pub due-set : (t : ℕ) → M .clock ≡ some t → step w due M ≡ (dueOf (lastDigit (w .plant)) t (M .requests), M)
+  pub due-set : (t : ℕ) → M .clock ≡ some t → step w due M ≡ (dueOf (w .settings) (lastDigit (w .plant)) t (M .requests), M)
   unfolding step
-  due-set t e = ap (λ (o : Option ℕ). atClock o (λ t. (dueOf (lastDigit (w .plant)) t (M .requests), M)) M) e
+  due-set t e = ap (λ (o : Option ℕ). atClock o (λ t. (dueOf (w .settings) (lastDigit (w .plant)) t (M .requests), M)) M) e
 
   -- ---- failure
 
   module _ (kind : Kind) (status : ℕ) where
     abbrev reported : ℕ → Step
-    reported t = check (isStatus status) Cause.Range (accepted, withRequests (failed (lastDigit (w .plant)) kind t status (M .requests)) M) M
+    reported t = check (isStatus status) Cause.Range (accepted, withRequests (failed (w .settings) (lastDigit (w .plant)) kind t status (M .requests)) M) M
 
     pub failure-unset : M .clock ≡ none → step w (failure kind status) M ≡ refusal Cause.ClockUnset M
     unfolding step
@@ -57,14 +57,14 @@ module _ (w : Told) (M : Machine) where
     unfolding step
     failure-status t e f =
         ap (λ (o : Option ℕ). atClock o reported M) e
-        ∙ ap (λ (b : Bool). check b Cause.Range (accepted, withRequests (failed (lastDigit (w .plant)) kind t status (M .requests)) M) M) f
+        ∙ ap (λ (b : Bool). check b Cause.Range (accepted, withRequests (failed (w .settings) (lastDigit (w .plant)) kind t status (M .requests)) M) M) f
 
     pub failure-done : (t : ℕ) → M .clock ≡ some t → isStatus status ≡ true
-        → step w (failure kind status) M ≡ (accepted, withRequests (failed (lastDigit (w .plant)) kind t status (M .requests)) M)
+        → step w (failure kind status) M ≡ (accepted, withRequests (failed (w .settings) (lastDigit (w .plant)) kind t status (M .requests)) M)
     unfolding step
     failure-done t e f =
         ap (λ (o : Option ℕ). atClock o reported M) e
-        ∙ ap (λ (b : Bool). check b Cause.Range (accepted, withRequests (failed (lastDigit (w .plant)) kind t status (M .requests)) M) M) f
+        ∙ ap (λ (b : Bool). check b Cause.Range (accepted, withRequests (failed (w .settings) (lastDigit (w .plant)) kind t status (M .requests)) M) M) f
 
   -- ---- tick
 

@@ -16,6 +16,7 @@ use Rattle.rules.specs.Body.{Record}
 use Rattle.rules.specs.File.{Outcome, refuse, file, takeFile, startOf, recordsIn}
 use Rattle.rules.specs.Store.{blockCount}
 use Rattle.rules.specs.Machine.{Call, tick, clockLost, fileTaken, failure, due, ceilingOf, command, freeBlocks, raisedFloor}
+use Rattle.rules.specs.Table.{firstOf}
 use Rattle.rules.specs.declared.Cause.{Cause}
 use Rattle.pool.specs.Blocks.{isFree, monthOf, freeCount, findOf, given, freeAfter, releaseOf}
 use Rattle.pool.specs.Held.{InBlock}
@@ -31,7 +32,6 @@ use Rattle.about_store.specs.Run.{putRecords}
 use Rattle.about_store.specs.Untouched.{Keeps}
 use Rattle.about_store.proofs.Given.{given-cases, given-keeps, released-in}
 use Rattle.about_store.proofs.Put.{live}
-use Rattle.unit.specs.Rows.{firstOf}
 use Rattle.unit.specs.Calls.{doneBy, setClock, withCommand, second, seconds, tickFrom, ticked, tickOf, lost, lostOf, withFailure, failureOf}
 use Rattle.taking.specs.Taken.{takeRows, takeOf, taken, withFile}
 use Rattle.taking.specs.Step.{State, step, after}

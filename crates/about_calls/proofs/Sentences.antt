@@ -5,13 +5,13 @@ use mathlib.Core.Option.{Option, none, some}
 use lib.ListN.{length}
 use Rattle.rules.specs.File.{Outcome, file, takeFile, recordsIn}
 use Rattle.rules.specs.Machine.{tick, clockLost, fileTaken, failure, due, ceilingOf, command, freeBlocks, anyRecord, freshMachine, after as machineAfter}
+use Rattle.rules.specs.Table.{firstOf}
 use Rattle.rules.specs.declared.Answer.{Answer}
 use Rattle.rules.specs.declared.Cause.{Cause}
 use Rattle.schedule.specs.Stored.{Stored}
 use Rattle.about_store.specs.Run.{putRecords}
 use Rattle.about_store.specs.Untouched.{Untouched}
 use Rattle.about_store.proofs.Laws.{rate-agrees, records-untouched}
-use Rattle.unit.specs.Rows.{firstOf}
 use Rattle.unit.specs.Calls.{doneBy}
 use Rattle.taking.specs.Taken.{takeRows, takeOf, taken, withFile, storeBy, storeWith, storeAfterTake}
 use Rattle.taking.specs.Step.{step, after}

@@ -1,6 +1,6 @@
 -- Each call: the unit's reply is the machine's, and the unit goes on following.
 use Prim.Native.Nat.{ℕ, _-_, _<_}
-use mathlib.Core.Path.{_≡_, refl, sym, ap, _∙_, subst₂}
+use mathlib.Core.Path.{_≡_, refl, sym, ap, ap₂, _∙_, subst₂}
 use mathlib.Core.Bool.{Bool, true, false}
 use mathlib.Core.Option.{Option, none, some}
 use native.Mathlib.Omega.{arith}
@@ -16,6 +16,7 @@ use Rattle.rules.specs.declared.Due.{Due}
 use Rattle.rules.specs.declared.Kind.{Kind}
 use Rattle.plant.specs.Plant.{validPlant, settingsOf}
 use Rattle.plant.specs.declared.Plant.{Plant}
+use Rattle.plant.proofs.Laws.{valid-facts}
 use Rattle.pool.specs.Below.{sumBelow}
 use Rattle.pool.specs.Blocks.{freeCount}
 use Rattle.pool.specs.Held.{heldOf}
@@ -127,7 +128,7 @@ module _ (p : Plant) (valid : validPlant p ≡ true) (n : ℕ) where
             sim-by p n _ _ _ _ (ap (λ (a : Due). (ofDue a, s)) (due-unset u good e)) (machine.due-unset w M (clock-none e)) (refl, h)
         go (At t) e =
             sim-by p n _ _ _ _
-            (ap (λ (r : Reply). (r, s)) (ap ofDue (due-done u good t e (lastDigit (p .id)) digit-same) ∙ due-as-machine _ t _ ∙ ap (λ q. Rattle.rules.specs.Machine.dueOf (lastDigit (p .id)) t q) (h .requests)))
+            (ap (λ (r : Reply). (r, s)) (ap ofDue (due-done u good t e (lastDigit (p .id)) digit-same) ∙ due-as-machine _ _ t _ ∙ ap₂ (λ (r : Plant) q. Rattle.rules.specs.Machine.dueOf (settingsOf r) (lastDigit (p .id)) t q) (h .plant) (h .requests)))
             (machine.due-set w M t (clock-some t e)) (refl, h)
 
     -- ---- failure reported
@@ -138,24 +139,24 @@ module _ (p : Plant) (valid : validPlant p ≡ true) (n : ℕ) where
       reported t = record {
         plant = u .plant;
         pool = u .pool;
-        requests = requestsFrom (failed (lastDigit (p .id)) kind t status (requestsOf (u .requests)));
+        requests = requestsFrom (failed (settingsOf (u .plant)) (lastDigit (p .id)) kind t status (requestsOf (u .requests)));
         clock = At t;
         floor = u .floor;
         command = u .command;
       }
 
       reported-follows : (t : ℕ) → u .clock ≡ At t
-          → Follows p n (record { unit = reported t; store = s .store }) (withRequests (failed (lastDigit (p .id)) kind t status (M .requests)) M)
+          → Follows p n (record { unit = reported t; store = s .store }) (withRequests (failed (settingsOf p) (lastDigit (p .id)) kind t status (M .requests)) M)
       unfolding withRequests
       reported-follows t e = record {
         plant = h .plant;
         size = h .size;
         clock = sym (clock-some t e);
         floor = h .floor;
-        requests = ap (λ q. failed (lastDigit (p .id)) kind t status q) (h .requests);
+        requests = ap₂ (λ (r : Plant) q. failed (settingsOf r) (lastDigit (p .id)) kind t status q) (h .plant) (h .requests);
         command = h .command;
         time = h .time;
-        asks = facts-asks _ (failed-asks t (time-below t e) (M .requests) (asks-facts (M .requests) (h .asks)) (lastDigit (p .id)) kind status);
+        asks = facts-asks _ _ (failed-asks _ (valid-facts p valid .settings) t (time-below t e) (M .requests) (asks-facts _ (M .requests) (h .asks)) (lastDigit (p .id)) kind status);
         most = h .most;
         kept = kept-same s _ M _ refl refl refl refl (λ z. z) (h .kept);
       }

@@ -19,6 +19,7 @@ use Rattle.rules.specs.declared.Format.{Format}
 use Rattle.rules.specs.declared.Format.the-variants.{F201, F202, F203, F301}
 use Rattle.calendar.proofs.DateLaws.{exists-below}
 use Rattle.about_files.proofs.Reading.{taken-exactly}
+use Rattle.rules.specs.Plant.{Settings}
 use Rattle.plant.specs.Plant.{validPlant}
 use Rattle.plant.specs.declared.Plant.{Plant}
 use Rattle.pool.specs.Blocks.{freeCount}
@@ -104,14 +105,14 @@ lawful-facts plant f e =
     let e₁ = both (a && b) c (e₂ .0) in
     record { name = both a b (e₁ .0) .0; form = e₁ .1; dates = e₂ .1 }
 
-pub file-asks : (t : ℕ) → t < endOfTime → (f : File) (q : Requests) → Lawful f → Asks q → Asks (takeBy t (f .name .format) (f .name) (recordsIn (f .body)) q)
-file-asks t low f q l a = go (f .name .format) refl
+pub file-asks : (s : Settings) (t : ℕ) → t < endOfTime → (f : File) (q : Requests) → Lawful f → Asks s q → Asks s (takeBy t (f .name .format) (f .name) (recordsIn (f .body)) q)
+file-asks s t low f q l a = go (f .name .format) refl
   where
-    go : (x : Format) → f .name .format ≡ x → Asks (takeBy t x (f .name) (recordsIn (f .body)) q)
-    go F201 e = year-asks q a (segmentDigit (f .name .segment)) (segment-low (f .name) (l .name))
+    go : (x : Format) → f .name .format ≡ x → Asks s (takeBy t x (f .name) (recordsIn (f .body)) q)
+    go F201 e = year-asks s q a (segmentDigit (f .name .segment)) (segment-low (f .name) (l .name))
     go F202 e = a
     go F203 e =
-        taken-asks q a t (flagOf (recordsIn (f .body))) (nextAccess (recordsIn (f .body))) low
+        taken-asks s q a t (flagOf (recordsIn (f .body))) (nextAccess (recordsIn (f .body))) low
         (flag-low (f .body) (ap (λ (x : Format). formOfBody x (f .body)) (sym e) ∙ l .form))
         (next-low (f .name) (f .body) e (l .dates))
     go F301 e = a
@@ -164,7 +165,7 @@ module _ (p : Plant) (valid : validPlant p ≡ true) (n : ℕ) (s : State) (M : 
           requests = ap₂ (λ c q. takeBy c (f .name .format) (f .name) (recordsIn (f .body)) q) (ap clockTime set) (h .requests);
           command = h .command;
           time = h .time;
-          asks = facts-asks _ (file-asks t (time-below p valid n s M h t set) f (M .requests) lawful-file (asks-facts (M .requests) (h .asks)));
+          asks = facts-asks _ _ (file-asks _ t (time-below p valid n s M h t set) f (M .requests) lawful-file (asks-facts _ (M .requests) (h .asks)));
           most = h .most;
           kept = agrees (a .full) a;
         }

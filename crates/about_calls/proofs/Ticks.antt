@@ -11,6 +11,7 @@ use borrow.Author.Tests.{le-leb, le-ltb, lt-ltb, eq-eqb, ltb-true}
 use Rattle.rules.specs.Calendar.{monthOf, endOfTime}
 use Rattle.rules.specs.Store.{storeLength, soundClock, soundStore, blockCount}
 use Rattle.rules.specs.Machine.{Machine, raisedFloor, freshMachine, after as machineAfter}
+use Rattle.rules.specs.Table.{firstOf}
 use Rattle.rules.specs.declared.Answer.{Answer}
 use Rattle.pool.specs.Below.{sumBelow, number, bit}
 use Rattle.pool.specs.Blocks.{isFree, monthOf as blockMonth, freeAfter, releaseOf}
@@ -19,7 +20,6 @@ use Rattle.pool.specs.declared.Pool.{Pool}
 use Rattle.pool.proofs.BelowLaws.{number-bits}
 use Rattle.about_store.proofs.Laws.{store-sound}
 use Rattle.unit.specs.Values.{isSound, clockOf}
-use Rattle.unit.specs.Rows.{firstOf}
 use Rattle.unit.specs.Calls.{setClock, tickFrom, ticked, tickOf}
 use Rattle.taking.specs.Step.{State, replies, after}
 use Rattle.unit.specs.declared.Unit.{Unit}

@@ -11,12 +11,13 @@ use Rattle.rules.specs.File.{File, refuse, file, takeFile}
 use Rattle.rules.specs.Store.{storeLength, soundStore}
 use Rattle.rules.specs.Causes.{accepted, refused, numberOf, ofCeiling}
 use Rattle.rules.specs.Machine.{tick, fileTaken, ceilingOf}
+use Rattle.rules.specs.Table.{firstOf}
 use Rattle.rules.specs.declared.Cause.{Cause}
 use Rattle.plant.specs.Plant.{settingsOf}
 use Rattle.pool.specs.Held.{heldOf}
 use Rattle.schedule.specs.Stored.{storedRate}
 use Rattle.unit.specs.Values.{isSound}
-use Rattle.unit.specs.Rows.{firstOf, isUnset}
+use Rattle.unit.specs.Rows.{isUnset}
 use Rattle.unit.specs.Calls.{ticked, tickOf, ceilingOf as ceilingAt, ceilingAnswer}
 use Rattle.taking.specs.Taken.{takeOf, storeAfterTake, fullRow, taken, storeWith, withFile}
 use Rattle.taking.specs.Step.{State, Step, step}

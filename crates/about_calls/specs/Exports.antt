@@ -11,15 +11,15 @@ use denote.Triple.Clauses.{Lasts, atExit}
 use Rattle.rules.specs.Machine.{tick, clockLost, fileTaken, failure, due, ceilingOf, command, freeBlocks}
 use Rattle.rules.specs.Writer.{writtenOf, bufferAfter}
 use Rattle.rules.specs.declared.Kind.{Kind}
-use Rattle.plant.specs.Plant.{settings}
 use Rattle.unit.specs.Request.{requestOf}
 use Rattle.unit.specs.declared.Unit.{Unit}
 use Rattle.taking.specs.Step.{State, step}
 use Rattle.taking.specs.Stepping.{callOf, replyOf}
 use Rattle.taking.specs.declared.calls.Call.{Call}
 use Rattle.taking.specs.declared.calls.Stepped.{Stepped}
-use Rattle.c_structs.specs.Held.{opened}
+use Rattle.c_structs.specs.Held.{settingsIn, opened}
 use Rattle.c_structs.specs.Answers.{writtenNumbers}
+use Rattle.c_structs.specs.declared.structs.HeldSettings.{HeldSettings}
 use Rattle.c_structs.specs.declared.structs.HeldUnit.{HeldUnit}
 use Rattle.c_structs.specs.declared.structs.Handed.{Handed}
 use Rattle.c_structs.specs.declared.answers.Number.{Number}
@@ -56,8 +56,8 @@ unitWith u store = record { unit = u; store = store }
 -- for all that a function is given and whatever it returns (r): where its contract holds of these, they are the step's. What is lent as `&mut` has some last
 -- value (w); e is what a caller sees of the parameters afterwards, the store among them: as it was, where it is lent as `&`
 pub record EachSays : Type 0 where
-  pub install : (κs : _) (id mac : _) (panel inverter minutes : ℕ) (r : Handed) (e : _) → jag-install.Learnt κs (id, (mac, (panel, (inverter, (minutes, tt))))) r e
-      → r ≡ heldInstall (now id) (now mac) (settings panel inverter minutes)
+  pub install : (κs : _) (id mac : _) (given : HeldSettings) (r : Handed) (e : _) → jag-install.Learnt κs (id, (mac, (given, tt))) r e
+      → r ≡ heldInstall (now id) (now mac) (settingsIn given)
   pub ticks : (κs : _) (u : HeldUnit) (t : ℕ) (store : _) (r : Handed) (w : Lasts ticking.ended κs (u, (t, (store, tt))))
       → let e = atExit ticking.ended κs (u, (t, (store, tt))) w in
       jag-tick.Learnt κs (u, (t, (store, tt))) r e

@@ -2,48 +2,30 @@
 -- refuses. `installedUnit` is the definition in the contract of Unit::install.
 use Prim.Native.Nat.{ℕ, _<_}
 use mathlib.Core.Path.{_≡_}
-use mathlib.Core.Bool.{Bool, true, false, not, _&&_}
+use mathlib.Core.Bool.{true, false}
 use mathlib.Core.List.{List, map}
 use mathlib.Core.Logic.{_↔_}
-use Rattle.rules.specs.Plant.{Settings, plantId, macAddress, validSettings}
+use Rattle.rules.specs.Plant.{Settings}
 use Rattle.rules.specs.Store.{Values, blockCount, freshValues}
 use Rattle.rules.specs.Machine.{Call}
+use Rattle.rules.specs.Table.{appliesIn, Lowest}
 use Rattle.rules.specs.Writer.{refuse}
+use Rattle.rules.specs.Rows.{installRows}
 use Rattle.rules.specs.declared.Answer.{Answer}
 use Rattle.rules.specs.declared.Cause.{Cause}
-use Rattle.about_files.specs.ReadRefusals.{LowestBy}
 use Rattle.plant.specs.Plant.{plantOf, validPlant}
 use Rattle.unit.specs.Values.{valuesOf, isSound, freshUnit, installedUnit}
 use Rattle.unit.specs.Request.{requestOf}
 use Rattle.taking.specs.Step.{replies, after}
 use Rattle.about_calls.specs.Theorem.{installedState, unsoundReply}
 
--- whether a row of 01's table applies to an ID, a MAC address and settings: 'ID length, byte or check digit', 'setting, MAC length or MAC byte out of range'
-unfoldable pub installApplies : List ℕ → List ℕ → Settings → Cause → Bool
-installApplies id mac set Cause.PlantId = not (plantId id)
-installApplies id mac set Cause.Setting = not (macAddress mac && validSettings set)
-installApplies id mac set Cause.StoreLength = false
-installApplies id mac set Cause.Unsound = false
-installApplies id mac set Cause.ClockUnset = false
-installApplies id mac set Cause.Range = false
-installApplies id mac set Cause.Name = false
-installApplies id mac set Cause.OtherPlant = false
-installApplies id mac set Cause.Form = false
-installApplies id mac set Cause.Date = false
-installApplies id mac set Cause.Rate = false
-installApplies id mac set Cause.Checksum = false
-installApplies id mac set Cause.RecordPlant = false
-installApplies id mac set Cause.Full = false
-installApplies id mac set Cause.Buffer = false
-installApplies id mac set Cause.ErrorFile = false
-
 abbrev pub InstallRefuses : Type 0
 InstallRefuses =
-    (id mac : List ℕ) (set : Settings) (k : Cause) → (installedUnit id mac set .answer ≡ Answer.Refused k) ↔ LowestBy (installApplies id mac set) k
+    (id mac : List ℕ) (set : Settings) (k : Cause) → (installedUnit id mac set .answer ≡ Answer.Refused k) ↔ Lowest (installRows id mac set) k
 
 abbrev pub InstallAccepts : Type 0
 InstallAccepts =
-    (id mac : List ℕ) (set : Settings) → (installedUnit id mac set .answer ≡ Answer.Accepted) ↔ ((k : Cause) → installApplies id mac set k ≡ false)
+    (id mac : List ℕ) (set : Settings) → (installedUnit id mac set .answer ≡ Answer.Accepted) ↔ ((k : Cause) → appliesIn (installRows id mac set) k ≡ false)
 
 -- ---- an accepted install
 

@@ -3,7 +3,7 @@
 use Prim.Native.Nat.{ℕ}
 use mathlib.Core.Path.{_≡_}
 use mathlib.Core.Bool.{Bool, true, false, not, _&&_, _||_}
-use mathlib.Core.List.{List}
+use mathlib.Core.List.{List, [], _∷_, _++_}
 use mathlib.Core.Logic.{_↔_}
 use lib.Dec.{ltb, eqb}
 use lib.ListN.{length}
@@ -12,9 +12,10 @@ use Rattle.rules.specs.Name.{parseName}
 use Rattle.rules.specs.Store.{storeLength, soundStore}
 use Rattle.rules.specs.Causes.{Reply, refused, numberOf}
 use Rattle.rules.specs.Machine.{Call, tick, clockLost, fileTaken, failure, due, ceilingOf, command, freeBlocks, isStatus}
+use Rattle.rules.specs.Table.{Row, row, appliesIn, Lowest}
+use Rattle.rules.specs.Rows.{takenRows}
 use Rattle.rules.specs.declared.Answer.{Answer}
 use Rattle.rules.specs.declared.Cause.{Cause}
-use Rattle.about_files.specs.ReadRefusals.{takeApplies, LowestBy}
 use Rattle.pool.specs.Held.{heldOf}
 use Rattle.unit.specs.Values.{isSound}
 use Rattle.unit.specs.Rows.{isUnset}
@@ -46,43 +47,30 @@ outOfRange (ceilingOf slot) = not (ltb slot slotCount)
 outOfRange command = false
 outOfRange freeBlocks = false
 
--- a test of a file's name and body; no other call has them
-abbrev pub ofFile : (List ℕ → List ℕ → Bool) → Call → Bool
-ofFile test (tick t) = false
-ofFile test clockLost = false
-ofFile test (fileTaken name body) = test name body
-ofFile test (failure kind status) = false
-ofFile test due = false
-ofFile test (ceilingOf slot) = false
-ofFile test command = false
-ofFile test freeBlocks = false
+-- 7 to 13 are reading's rows for the unit's plant; 14 'more than 16 months would be held'. No other call than a file taken has these
+abbrev pub ofFile : Call → Unit → List Row
+ofFile (tick t) u = []
+ofFile clockLost u = []
+ofFile (fileTaken name body) u = takenRows (u .plant .id) name body ++ (row Cause.Full (fullBreaks u (parseName name) body) ∷ [])
+ofFile (failure kind status) u = []
+ofFile due u = []
+ofFile (ceilingOf slot) u = []
+ofFile command u = []
+ofFile freeBlocks u = []
 
--- 7 to 13: reading's rows for the unit's plant
-abbrev pub misread : Call → Unit → Cause → Bool
-misread c u k = ofFile (λ name body. takeApplies (u .plant .id) name body k) c
-
--- whether a row of 01's table applies to a call; 1 and 2 are installing's, 15 and 16 of the calls beside the unit
-unfoldable pub applies : Call → State → Cause → Bool
-applies c s Cause.PlantId = false
-applies c s Cause.Setting = false
-applies c s Cause.StoreLength = lent c && not (eqb (length (s .store)) storeLength)
-applies c s Cause.Unsound = not (isSound (s .unit)) || lent c && not (soundStore (heldOf (s .unit .pool)) (s .store))
-applies c s Cause.ClockUnset = needsClock c && isUnset (s .unit .clock)
-applies c s Cause.Range = outOfRange c
-applies c s Cause.Name = misread c (s .unit) Cause.Name
-applies c s Cause.OtherPlant = misread c (s .unit) Cause.OtherPlant
-applies c s Cause.Form = misread c (s .unit) Cause.Form
-applies c s Cause.Date = misread c (s .unit) Cause.Date
-applies c s Cause.Rate = misread c (s .unit) Cause.Rate
-applies c s Cause.Checksum = misread c (s .unit) Cause.Checksum
-applies c s Cause.RecordPlant = misread c (s .unit) Cause.RecordPlant
-applies c s Cause.Full = ofFile (λ name body. fullBreaks (s .unit) (parseName name) body) c
-applies c s Cause.Buffer = false
-applies c s Cause.ErrorFile = false
+-- the rows of 01's table for a call: 3 'store not 23,808 bytes', 4 'unit, or a lent store, not sound'; 1 and 2 are installing's, 15 and 16 of the calls beside
+-- the unit
+unfoldable pub callRows : Call → State → List Row
+callRows c s =
+    row Cause.StoreLength (lent c && not (eqb (length (s .store)) storeLength))
+    ∷ row Cause.Unsound (not (isSound (s .unit)) || lent c && not (soundStore (heldOf (s .unit .pool)) (s .store)))
+    ∷ row Cause.ClockUnset (needsClock c && isUnset (s .unit .clock))
+    ∷ row Cause.Range (outOfRange c)
+    ∷ ofFile c (s .unit)
 
 -- 'The lowest number that applies is given'
 abbrev pub RefusesLowest : Type 0
-RefusesLowest = (c : Call) (s : State) (k : Cause) → (step c s .0 ≡ refused (numberOf k)) ↔ LowestBy (applies c s) k
+RefusesLowest = (c : Call) (s : State) (k : Cause) → (step c s .0 ≡ refused (numberOf k)) ↔ Lowest (callRows c s) k
 
 -- 'unit and store are then exactly as before'
 abbrev pub RefusalLeaves : Type 0
@@ -100,19 +88,19 @@ isRefused (Reply.blocks n) = false
 
 -- no refusal exactly where no row applies
 abbrev pub AcceptsElse : Type 0
-AcceptsElse = (c : Call) (s : State) → (isRefused (step c s .0) ≡ false) ↔ ((k : Cause) → applies c s k ≡ false)
+AcceptsElse = (c : Call) (s : State) → (isRefused (step c s .0) ≡ false) ↔ ((k : Cause) → appliesIn (callRows c s) k ≡ false)
 
 -- ---- of a file taken, in the answer that the unit's method gives
 
-abbrev pub fileApplies : Unit → List ℕ → List ℕ → List ℕ → Cause → Bool
-fileApplies u store name body k = applies (fileTaken name body) (record { unit = u; store = store }) k
+abbrev pub fileRows : Unit → List ℕ → List ℕ → List ℕ → List Row
+fileRows u store name body = callRows (fileTaken name body) (record { unit = u; store = store })
 
 abbrev pub FileRefuses : Type 0
 FileRefuses =
     (u : Unit) (store name body : List ℕ) (k : Cause)
-    → (takeOf u store name body .answer ≡ Answer.Refused k) ↔ LowestBy (fileApplies u store name body) k
+    → (takeOf u store name body .answer ≡ Answer.Refused k) ↔ Lowest (fileRows u store name body) k
 
 abbrev pub FileAccepts : Type 0
 FileAccepts =
     (u : Unit) (store name body : List ℕ)
-    → (takeOf u store name body .answer ≡ Answer.Accepted) ↔ ((k : Cause) → fileApplies u store name body k ≡ false)
+    → (takeOf u store name body .answer ≡ Answer.Accepted) ↔ ((k : Cause) → appliesIn (fileRows u store name body) k ≡ false)

@@ -1,4 +1,6 @@
 pub mod Booleans
+pub mod Causes
+pub mod Table
 pub mod Numerals
 pub mod Pieces
 pub mod Record

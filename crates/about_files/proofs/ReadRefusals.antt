@@ -1,241 +1,132 @@
 -- The reader gives the lowest cause that applies, and a file exactly when none does.
 -- Assumes nothing.
-use Prim.Native.Nat.{ℕ, suc, _<_}
-use mathlib.Core.Path.{_≡_, _∙_, refl, sym, ap, ap₂, subst}
-use mathlib.Core.Bool.{Bool, true, false, not, _||_, false≢true}
-use mathlib.Core.List.{List}
-use mathlib.Core.Logic.{_↔_}
-use mathlib.Core.Option.{Option, none, some, Option·some-injective}
-use native.Mathlib.Omega.{arith}
-use lib.Dec.{ltb}
-use borrow.Author.Tests.{ltb-true, ltb-false}
+use Prim.Native.Nat.{ℕ}
+use mathlib.Core.Path.{_≡_, _∙_, refl, sym, ap, ap₂}
+use mathlib.Core.Bool.{Bool, true, false, cond, not, _||_}
+use mathlib.Core.List.{List, [], _∷_}
+use mathlib.Core.Logic.{_↔_, Iff·trans}
+use mathlib.Core.Option.{Option, none, some, Option·some-injective, Option·some-ne-none, Option·none-ne-some}
 use Rattle.rules.specs.Name.{Name, parseName}
-use Rattle.rules.specs.Body.{Body, parseBody}
-use Rattle.rules.specs.Causes.{numberOf}
-use Rattle.rules.specs.File.{File, Outcome, refuse, file, need, idFits, datesHold, ratesHold, checksumsHold, plantsHold, stages, withBody, withName, readFile, isRegistration, takeFile}
+use Rattle.rules.specs.Body.{Body, parseBody, isSchedule}
+use Rattle.rules.specs.File.{File, Outcome, refuse, file, idFits, datesHold, ratesHold, checksumsHold, plantsHold, stages, withBody, withName, readFile, isRegistration, takeFile}
+use Rattle.rules.specs.Table.{need, Row, row, firstOf, appliesIn, Lowest}
+use Rattle.rules.specs.Rows.{nameBreaks, unread, broken, laterRows, readRows, takenRows}
 use Rattle.rules.specs.declared.Cause.{Cause}
-use Rattle.about_files.specs.ReadRefusals.{nameBreaks, idBreaks, unread, formBreaks, broken, breaks, readApplies, takeApplies, LowestBy, Parsed, ReadRefuses, ReadAccepts, TakeRefuses, TakeAccepts}
-use Rattle.about_files.proofs.Refusals.{same-cause}
+use Rattle.about_files.specs.Reading.{LawfulBytes}
+use Rattle.about_files.specs.ReadRefusals.{Parsed, ReadRefuses, ReadAccepts, TakeRefuses, TakeAccepts}
+use Rattle.about_files.proofs.Name.{name-exactly}
+use Rattle.about_files.proofs.Body.{body-exactly}
+use Rattle.about_files.proofs.Reading.{lawful-facts, read-exactly, taken-exactly}
+use Rattle.about_files.proofs.Table.{rising, first-lowest, first-none}
 
--- ---- the lowest row that applies, of any rows
+-- ---- the first row that applies is the outcome's cause
 
-module _ (a : Cause → Bool) where
-  -- no row below k applies
-  abbrev pub Clear : ℕ → Type 0
-  Clear k = (d : Cause) → numberOf d < k → a d ≡ false
+abbrev pub causeOf : Outcome → Option Cause
+causeOf (refuse c) = some c
+causeOf (file f) = none
 
-  pub one-more : (c : Cause) → a c ≡ false → Clear (numberOf c) → Clear (suc (numberOf c))
-  one-more c p h d l = go (ltb (numberOf d) (numberOf c)) refl
+-- a stage is a row
+stage : (t : Bool) (c : Cause) (o : Outcome) {first : Option Cause} → causeOf o ≡ first → causeOf (need t (refuse c) o) ≡ cond (not t) (some c) first
+stage true c o e = e
+stage false c o e = refl
+
+body-first : (n : Name) (b : Option Body)
+    → causeOf (withBody n b)
+    ≡ firstOf
+    (row Cause.Form (unread b)
+    ∷ row Cause.Date (broken (datesHold n) b)
+    ∷ row Cause.Rate (broken ratesHold b)
+    ∷ row Cause.Checksum (broken checksumsHold b)
+    ∷ row Cause.RecordPlant (broken (plantsHold n) b)
+    ∷ [])
+unfolding firstOf stages
+body-first n none = refl
+body-first n (some b) =
+    stage (datesHold n b) Cause.Date _
+    (stage (ratesHold b) Cause.Rate _
+    (stage (checksumsHold b) Cause.Checksum _
+    (stage (plantsHold n b) Cause.RecordPlant _ refl)))
+
+name-first : (plant : Option (List ℕ)) (body : List ℕ) (n : Option Name)
+    → causeOf (withName plant body n) ≡ firstOf (row Cause.Name (nameBreaks n) ∷ laterRows plant n body)
+unfolding firstOf
+name-first plant body none = refl
+name-first plant body (some n) = stage (idFits plant (n .plant)) Cause.OtherPlant _ (body-first n (parseBody (n .format) body))
+
+read-first : (plant : Option (List ℕ)) (name body : List ℕ) → causeOf (readFile plant name body) ≡ firstOf (readRows plant name body)
+unfolding readFile readRows
+read-first plant name body = name-first plant body (parseName name)
+
+take-name : (plant body : List ℕ) (n : Option Name)
+    → causeOf (need (not (isRegistration n)) (refuse Cause.Name) (withName (some plant) body n))
+    ≡ firstOf (row Cause.Name (nameBreaks n || isRegistration n) ∷ laterRows (some plant) n body)
+unfolding firstOf
+take-name plant body none = refl
+take-name plant body (some n) = go (isSchedule (n .format))
+  where
+    go : (t : Bool) → causeOf (need (not (not t)) (refuse Cause.Name) (withName (some plant) body (some n)))
+        ≡ firstOf (row Cause.Name (false || not t) ∷ laterRows (some plant) (some n) body)
+    go true = name-first (some plant) body (some n)
+    go false = refl
+
+pub take-first : (plant name body : List ℕ) → causeOf (takeFile plant name body) ≡ firstOf (takenRows plant name body)
+unfolding takeFile readFile takenRows
+take-first plant name body = take-name plant body (parseName name)
+
+-- ---- what name and body parse as
+
+lawful-parsed : (plant : Option (List ℕ)) (name body : List ℕ) (f : File) → LawfulBytes plant name body f → Parsed name body f
+lawful-parsed plant name body f m =
+    let g = lawful-facts plant f (m .fields) .0 in
+    record {
+      nameIs = name-exactly name (f .name) .1 (m .nameBytes, g .name);
+      bodyIs = body-exactly (f .name .format) body (f .body) .1 (m .bodyBytes, g .form);
+    }
+
+one-parsed : (name body : List ℕ) (f g : File) → Parsed name body f → Parsed name body g → f ≡ g
+one-parsed name body f g p q =
+    let n : f .name ≡ g .name = Option·some-injective (f .name) (g .name) (sym (p .nameIs) ∙ q .nameIs) in
+    let b : f .body ≡ g .body =
+    Option·some-injective (f .body) (g .body) (sym (p .bodyIs) ∙ ap (λ (x : Name). parseBody (x .format) body) n ∙ q .bodyIs) in
+    ap₂ {C = File} (λ (x : Name) (y : Body). record { name = x; body = y }) n b
+
+-- ---- an outcome whose cause is that of the rows, and whose file is what name and body parse as
+
+has-cause : (o : Outcome) (c : Cause) → (o ≡ refuse c) ↔ (causeOf o ≡ some c)
+has-cause (refuse d) c = (λ e. ap causeOf e, λ e. ap refuse (Option·some-injective d c e))
+has-cause (file f) c = (λ e. ap causeOf e, λ e. absurd (Option·none-ne-some c e))
+
+module _ (rows : List Row) (o : Outcome) (first : causeOf o ≡ firstOf rows) where
+  outcome-refuses : rising rows ≡ true → (c : Cause) → (o ≡ refuse c) ↔ Lowest rows c
+  outcome-refuses rise c = Iff·trans (has-cause o c) (rw first (first-lowest rows rise c))
+
+  outcome-accepts : (name body : List ℕ) → ((f : File) → o ≡ file f → Parsed name body f) → (f : File)
+      → (o ≡ file f) ↔ (((c : Cause) → appliesIn rows c ≡ false) × Parsed name body f)
+  outcome-accepts name body parsed f =
+      (λ e. (first-none rows .0 (sym first ∙ ap causeOf e), parsed f e), λ h. go o refl (first ∙ first-none rows .1 (h .0)) (h .1))
     where
-      go : (t : Bool) → ltb (numberOf d) (numberOf c) ≡ t → a d ≡ false
-      go true q = h d (ltb-true (numberOf d) (numberOf c) q)
-      go false q =
-          let x = ltb-false (numberOf d) (numberOf c) q in
-          ap a (same-cause d c (omega arith)) ∙ p
+      go : (x : Outcome) → o ≡ x → causeOf o ≡ none → Parsed name body f → o ≡ file f
+      go (refuse d) e clear p = absurd (Option·some-ne-none d (sym (ap causeOf e) ∙ clear))
+      go (file g) e clear p = e ∙ ap file (one-parsed name body g f (parsed g e) p)
 
-  -- two lowest causes are the same
-  pub one-lowest : (c d : Cause) → LowestBy a c → LowestBy a d → c ≡ d
-  one-lowest c d p q = same-cause c d (go (ltb (numberOf c) (numberOf d)) refl (ltb (numberOf d) (numberOf c)) refl)
-    where
-      go : (s : Bool) → ltb (numberOf c) (numberOf d) ≡ s → (t : Bool) → ltb (numberOf d) (numberOf c) ≡ t → numberOf c ≡ numberOf d
-      go true x t y = absurd (false≢true (sym (q .least c (ltb-true _ _ x)) ∙ p .holds))
-      go false x true y = absurd (false≢true (sym (p .least d (ltb-true _ _ y)) ∙ q .holds))
-      go false x false y =
-          let u = ltb-false (numberOf c) (numberOf d) x in
-          let v = ltb-false (numberOf d) (numberOf c) y in
-          omega arith
-
-  module _ (name body : List ℕ) where
-    -- what an outcome says: the lowest cause that applies, or that none does and what was parsed
-    abbrev Says : Outcome → Type 0
-    Says (refuse c) = LowestBy a c
-    Says (file f) = ((c : Cause) → a c ≡ false) × Parsed name body f
-
-    -- a stage is a row
-    stage : (t : Bool) (c : Cause) (o : Outcome) → a c ≡ not t → Clear (numberOf c) → (Clear (suc (numberOf c)) → Says o) → Says (need t c o)
-    stage true c o e h next = next (one-more c e h)
-    stage false c o e h next = record { holds = e; least = h }
-
-    refused : (o : Outcome) (c : Cause) → Says o → LowestBy a c → o ≡ refuse c
-    refused (refuse d) c p q = ap refuse (one-lowest d c p q)
-    refused (file f) c p q = absurd (false≢true (sym (p .0 c) ∙ q .holds))
-
-    one-file : (f g : File) → Parsed name body f → Parsed name body g → f ≡ g
-    one-file f g p q =
-        let n : f .name ≡ g .name = Option·some-injective (f .name) (g .name) (sym (p .nameIs) ∙ q .nameIs) in
-        let b : f .body ≡ g .body =
-        Option·some-injective (f .body) (g .body) (sym (p .bodyIs) ∙ ap (λ (x : Name). parseBody (x .format) body) n ∙ q .bodyIs) in
-        ap₂ {C = File} (λ (x : Name) (y : Body). record { name = x; body = y }) n b
-
-    given : (o : Outcome) (f : File) → Says o → ((c : Cause) → a c ≡ false) → Parsed name body f → o ≡ file f
-    given (refuse d) f p q e = absurd (false≢true (sym (q d) ∙ p .holds))
-    given (file g) f p q e = ap file (one-file g f (p .1) e)
-
-    -- an outcome that says so is refused and read exactly then
-    refuses-by : (o : Outcome) → Says o → (c : Cause) → (o ≡ refuse c) ↔ LowestBy a c
-    refuses-by o s c = (λ e. subst Says e s, λ m. refused o c s m)
-
-    accepts-by : (o : Outcome) → Says o → (f : File) → (o ≡ file f) ↔ (((c : Cause) → a c ≡ false) × Parsed name body f)
-    accepts-by o s f = (λ e. subst Says e s, λ m. given o f s (m .0) (m .1))
-
--- ---- reading
-
-module _ (plant : Option (List ℕ)) (name body : List ℕ) where
-  abbrev r : Cause → Bool
-  r = readApplies plant name body
-
-  -- no row below 7, and none above 13
-  first : Clear r 7
-  unfolding readApplies
-  first Cause.PlantId l = refl
-  first Cause.Setting l = refl
-  first Cause.StoreLength l = refl
-  first Cause.Unsound l = refl
-  first Cause.ClockUnset l = refl
-  first Cause.Range l = refl
-  first Cause.Name l = absurd (omega arith)
-  first Cause.OtherPlant l = absurd (omega arith)
-  first Cause.Form l = absurd (omega arith)
-  first Cause.Date l = absurd (omega arith)
-  first Cause.Rate l = absurd (omega arith)
-  first Cause.Checksum l = absurd (omega arith)
-  first Cause.RecordPlant l = absurd (omega arith)
-  first Cause.Full l = absurd (omega arith)
-  first Cause.Buffer l = absurd (omega arith)
-  first Cause.ErrorFile l = absurd (omega arith)
-
-  last : Clear r 14 → (c : Cause) → r c ≡ false
-  unfolding readApplies
-  last h Cause.PlantId = refl
-  last h Cause.Setting = refl
-  last h Cause.StoreLength = refl
-  last h Cause.Unsound = refl
-  last h Cause.ClockUnset = refl
-  last h Cause.Range = refl
-  last h Cause.Name = h Cause.Name (omega arith)
-  last h Cause.OtherPlant = h Cause.OtherPlant (omega arith)
-  last h Cause.Form = h Cause.Form (omega arith)
-  last h Cause.Date = h Cause.Date (omega arith)
-  last h Cause.Rate = h Cause.Rate (omega arith)
-  last h Cause.Checksum = h Cause.Checksum (omega arith)
-  last h Cause.RecordPlant = h Cause.RecordPlant (omega arith)
-  last h Cause.Full = refl
-  last h Cause.Buffer = refl
-  last h Cause.ErrorFile = refl
-
-  -- a rule of 10 to 13, where both parsed
-  rule-is : (rule : Name → Body → Bool) (n : Name) (b : Body) → parseName name ≡ some n → parseBody (n .format) body ≡ some b
-      → breaks rule (parseName name) body ≡ not (rule n b)
-  rule-is rule n b p q = ap (λ (o : Option Name). breaks rule o body) p ∙ ap (λ (o : Option Body). broken (rule n) o) q
-
-  says-stages : (n : Name) (b : Body) → parseName name ≡ some n → parseBody (n .format) body ≡ some b → Clear r 10 → Says r name body (stages n b)
-  unfolding stages readApplies
-  says-stages n b p q h =
-      stage r name body (datesHold n b) Cause.Date _ (rule-is datesHold n b p q) h (λ h₁.
-      stage r name body (ratesHold b) Cause.Rate _ (rule-is (λ m. ratesHold) n b p q) h₁ (λ h₂.
-      stage r name body (checksumsHold b) Cause.Checksum _ (rule-is (λ m. checksumsHold) n b p q) h₂ (λ h₃.
-      stage r name body (plantsHold n b) Cause.RecordPlant (file (record { name = n; body = b })) (rule-is plantsHold n b p q) h₃ (λ h₄.
-      (last h₄, record { nameIs = p; bodyIs = q })))))
-
-  says-body : (n : Name) (o : Option Body) → parseName name ≡ some n → parseBody (n .format) body ≡ o → Clear r 9 → Says r name body (withBody n o)
-  unfolding readApplies
-  says-body n o p q h = go o q
-    where
-      form : r Cause.Form ≡ unread (parseBody (n .format) body)
-      form = ap (λ (x : Option Name). formBreaks x body) p
-
-      go : (o : Option Body) → parseBody (n .format) body ≡ o → Says r name body (withBody n o)
-      go none e = record { holds = form ∙ ap unread e; least = h }
-      go (some b) e = says-stages n b p e (one-more r Cause.Form (form ∙ ap unread e) h)
-
-  says-name : (o : Option Name) → parseName name ≡ o → Says r name body (withName plant body o)
-  unfolding readApplies
-  says-name none p = record { holds = ap nameBreaks p; least = first }
-  says-name (some n) p =
-      stage r name body (idFits plant (n .plant)) Cause.OtherPlant (withBody n (parseBody (n .format) body)) (ap (idBreaks plant) p)
-      (one-more r Cause.Name (ap nameBreaks p) first)
-      (λ h. says-body n (parseBody (n .format) body) p refl h)
-
-  pub says-read : Says r name body (readFile plant name body)
-  unfolding readFile
-  says-read = says-name (parseName name) refl
+-- ---- reading and taking
 
 pub read-refuses : ReadRefuses
-read-refuses plant name body c = refuses-by (readApplies plant name body) name body (readFile plant name body) (says-read plant name body) c
+unfolding readRows
+read-refuses plant name body c = outcome-refuses (readRows plant name body) (readFile plant name body) (read-first plant name body) refl c
 
 pub read-accepts : ReadAccepts
-read-accepts plant name body f = accepts-by (readApplies plant name body) name body (readFile plant name body) (says-read plant name body) f
-
--- ---- taking
-
-module _ (plant name body : List ℕ) where
-  abbrev t : Cause → Bool
-  t = takeApplies plant name body
-
-  abbrev r′ : Cause → Bool
-  r′ = readApplies (some plant) name body
-
-  or-none : (x y : Bool) → y ≡ false → (x || y) ≡ x
-  or-none true y e = refl
-  or-none false y e = e
-
-  or-some : (x y : Bool) → y ≡ true → (x || y) ≡ true
-  or-some true y e = refl
-  or-some false y e = e
-
-  -- no 301: the rows are the reader's
-  rows-same : isRegistration (parseName name) ≡ false → (c : Cause) → r′ c ≡ t c
-  unfolding readApplies takeApplies
-  rows-same e Cause.PlantId = refl
-  rows-same e Cause.Setting = refl
-  rows-same e Cause.StoreLength = refl
-  rows-same e Cause.Unsound = refl
-  rows-same e Cause.ClockUnset = refl
-  rows-same e Cause.Range = refl
-  rows-same e Cause.Name = sym (or-none (nameBreaks (parseName name)) (isRegistration (parseName name)) e)
-  rows-same e Cause.OtherPlant = refl
-  rows-same e Cause.Form = refl
-  rows-same e Cause.Date = refl
-  rows-same e Cause.Rate = refl
-  rows-same e Cause.Checksum = refl
-  rows-same e Cause.RecordPlant = refl
-  rows-same e Cause.Full = refl
-  rows-same e Cause.Buffer = refl
-  rows-same e Cause.ErrorFile = refl
-
-  says-same : ((c : Cause) → r′ c ≡ t c) → (o : Outcome) → Says r′ name body o → Says t name body o
-  says-same e (refuse c) s = record { holds = sym (e c) ∙ s .holds; least = λ d l. sym (e d) ∙ s .least d l }
-  says-same e (file f) s = (λ c. sym (e c) ∙ s .0 c, s .1)
-
-  below-seven : Clear t 7
-  unfolding takeApplies
-  below-seven Cause.PlantId l = refl
-  below-seven Cause.Setting l = refl
-  below-seven Cause.StoreLength l = refl
-  below-seven Cause.Unsound l = refl
-  below-seven Cause.ClockUnset l = refl
-  below-seven Cause.Range l = refl
-  below-seven Cause.Name l = absurd (omega arith)
-  below-seven Cause.OtherPlant l = absurd (omega arith)
-  below-seven Cause.Form l = absurd (omega arith)
-  below-seven Cause.Date l = absurd (omega arith)
-  below-seven Cause.Rate l = absurd (omega arith)
-  below-seven Cause.Checksum l = absurd (omega arith)
-  below-seven Cause.RecordPlant l = absurd (omega arith)
-  below-seven Cause.Full l = absurd (omega arith)
-  below-seven Cause.Buffer l = absurd (omega arith)
-  below-seven Cause.ErrorFile l = absurd (omega arith)
-
-  pub says-take : Says t name body (takeFile plant name body)
-  unfolding takeFile takeApplies
-  says-take = go (isRegistration (parseName name)) refl
-    where
-      go : (x : Bool) → isRegistration (parseName name) ≡ x → Says t name body (need (not x) Cause.Name (readFile (some plant) name body))
-      go true e = record { holds = or-some (nameBreaks (parseName name)) (isRegistration (parseName name)) e; least = below-seven }
-      go false e = says-same (rows-same e) (readFile (some plant) name body) (says-read (some plant) name body)
+read-accepts plant name body f =
+    outcome-accepts (readRows plant name body) (readFile plant name body) (read-first plant name body) name body
+    (λ g e. lawful-parsed plant name body g (read-exactly plant name body g .0 e))
+    f
 
 pub take-refuses : TakeRefuses
-take-refuses plant name body c = refuses-by (takeApplies plant name body) name body (takeFile plant name body) (says-take plant name body) c
+unfolding takenRows
+take-refuses plant name body c = outcome-refuses (takenRows plant name body) (takeFile plant name body) (take-first plant name body) refl c
 
 pub take-accepts : TakeAccepts
-take-accepts plant name body f = accepts-by (takeApplies plant name body) name body (takeFile plant name body) (says-take plant name body) f
+take-accepts plant name body f =
+    outcome-accepts (takenRows plant name body) (takeFile plant name body) (take-first plant name body) name body
+    (λ g e. lawful-parsed (some plant) name body g (taken-exactly plant name body g .0 e .0))
+    f

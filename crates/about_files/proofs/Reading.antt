@@ -8,7 +8,8 @@ use mathlib.Core.Option.{Option, none, some}
 use native.Mathlib.Omega.{arith}
 use Rattle.rules.specs.Name.{Name, parseName}
 use Rattle.rules.specs.Body.{Body, parseBody, isSchedule}
-use Rattle.rules.specs.File.{File, Outcome, refuse, file, need, idFits, datesHold, ratesHold, checksumsHold, plantsHold, stages, withBody, withName, readFile, isRegistration, takeFile, lawful}
+use Rattle.rules.specs.File.{File, Outcome, refuse, file, idFits, datesHold, ratesHold, checksumsHold, plantsHold, stages, withBody, withName, readFile, isRegistration, takeFile, lawful}
+use Rattle.rules.specs.Table.{need}
 use Rattle.rules.specs.declared.Cause.{Cause}
 use Rattle.about_files.specs.Reading.{LawfulBytes, ReadExactly, accepted, AcceptedExactly, RefusedExactly, OneFile, Rules, FileBytes, ReadWithoutPlant, ReadWithPlant, TakenExactly}
 use Rattle.about_files.proofs.Booleans.{both, join, same-equal, equal-same}
@@ -20,7 +21,7 @@ no-file : {X : Type 0} {c : Cause} {f : File} → refuse c ≡ file f → X
 no-file e = let z : _≡_ {A = ℕ} 0 1 = cc in absurd (omega arith)
 
 -- a stage that is passed
-passed : (t : Bool) (c : Cause) (o : Outcome) (f : File) → need t c o ≡ file f → (t ≡ true) × (o ≡ file f)
+passed : (t : Bool) (c : Cause) (o : Outcome) (f : File) → need t (refuse c) o ≡ file f → (t ≡ true) × (o ≡ file f)
 passed true c o f e = (refl, e)
 passed false c o f e = no-file e
 

@@ -15,7 +15,8 @@ use Rattle.rules.specs.Plant.{plantId}
 use Rattle.rules.specs.Name.{Name, formatOf, lawfulName, segmentFits, encodeName}
 use Rattle.rules.specs.Body.{Record, schedule, countOf, mostRates, flagDigits, nextDigits, formOfRecord, every, isSchedule, formOfBody, encodeBody, highestRate}
 use Rattle.rules.specs.File.{file, readFile, lawful, idFits, monthBegins, monthsFrom, firstMonth, updateDates, inTime, recordDates, datesHold, ratesHold, checksumsHold, plantsHold, checksumOf}
-use Rattle.rules.specs.Writer.{Fields, Output, refuse, bytes, need, fieldRecords, monthRecords, updateRecord, flagFits, nextFits, digitsFit, monthsFit, datesFit, writeBody}
+use Rattle.rules.specs.Writer.{Fields, Output, refuse, bytes, fieldRecords, monthRecords, updateRecord, flagFits, nextFits, digitsFit, monthsFit, datesFit, writeBody}
+use Rattle.rules.specs.Table.{need}
 use Rattle.rules.specs.declared.Cause.{Cause}
 use Rattle.rules.specs.declared.Format.{Format}
 use Rattle.rules.specs.declared.Format.the-variants.{F201, F202, F203, F301}
@@ -44,7 +45,7 @@ pub record Fit (f : Format) (w : Fields) : Type 0 where
 no-bytes : {X : Type 0} {c : Cause} {b : List ℕ} → refuse c ≡ bytes b → X
 no-bytes e = let z : _≡_ {A = ℕ} 0 1 = cc in absurd (omega arith)
 
-passed : (t : Bool) (c : Cause) (o : Output) (b : List ℕ) → need t c o ≡ bytes b → (t ≡ true) × (o ≡ bytes b)
+passed : (t : Bool) (c : Cause) (o : Output) (b : List ℕ) → need t (refuse c) o ≡ bytes b → (t ≡ true) × (o ≡ bytes b)
 passed true c o b e = (refl, e)
 passed false c o b e = no-bytes e
 

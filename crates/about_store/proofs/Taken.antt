@@ -12,7 +12,8 @@ use Rattle.rules.specs.Digits.{part, allDigits, allAtMost, digits}
 use Rattle.rules.specs.Calendar.{firstSlot, monthOfSlot, slotCount, exists, secondsOf, slotOf, wholeMinute, halfHour, startSlot}
 use Rattle.rules.specs.Name.{Name, parseName, segmentMonth}
 use Rattle.rules.specs.Body.{Record, Body, schedule, registration, before, ratesOf, sizeOf, tailDigits, recordShape, recordAt, parseRecords, counted, parseBody, every, isSchedule, highestRate}
-use Rattle.rules.specs.File.{File, idFits, startOf, firstMonth, inTime, updateDates, recordDates, datesHold, ratesHold, checksumsHold, plantsHold, Outcome, file, need, stages, withBody, withName, readFile, isRegistration, takeFile, recordsIn}
+use Rattle.rules.specs.File.{File, idFits, startOf, firstMonth, inTime, updateDates, recordDates, datesHold, ratesHold, checksumsHold, plantsHold, Outcome, refuse, file, stages, withBody, withName, readFile, isRegistration, takeFile, recordsIn}
+use Rattle.rules.specs.Table.{need}
 use Rattle.rules.specs.declared.Cause.{Cause}
 use Rattle.rules.specs.declared.Format.{Format}
 use Rattle.rules.specs.declared.Format.the-variants.{F201, F202, F203, F301}
@@ -115,7 +116,7 @@ schedule-run n body rs parsed dates low not-301 = go (n .format) parsed dates no
     go F203 p d s = update rs (update-body body rs p) d low
     go F301 p d s = absurd (false≢true s)
 
-need-file : (t : Bool) (c : Cause) (o : Outcome) (f : File) → need t c o ≡ file f → (t ≡ true) × (o ≡ file f)
+need-file : (t : Bool) (c : Cause) (o : Outcome) (f : File) → need t (refuse c) o ≡ file f → (t ≡ true) × (o ≡ file f)
 need-file true c o f e = (refl, e)
 need-file false c o f e = let z : _≡_ {A = ℕ} 0 1 = cc in absurd (omega arith)
 
@@ -140,7 +141,7 @@ good plant name body f e = go (parseName name) e
         let same : F ≡ f = cc in
         subst (λ (g : File). GoodFile g) same (body-good n body b p s (d .0) (r .0))
 
-    go : (o : Option Name) → need (not (isRegistration o)) Cause.Name (withName (some plant) body o) ≡ file f → GoodFile f
+    go : (o : Option Name) → need (not (isRegistration o)) (refuse Cause.Name) (withName (some plant) body o) ≡ file f → GoodFile f
     go none q = let z : _≡_ {A = ℕ} 0 1 = cc in absurd (omega arith)
     go (some n) q =
         let s = need-file (not (isRegistration (some n))) Cause.Name (withName (some plant) body (some n)) f q in

@@ -12,7 +12,8 @@ use borrow.Author.Tests.{leb-true, eqb-true}
 use Rattle.rules.specs.Digits.{part, allDigits, sameBytes}
 use Rattle.rules.specs.Name.{Name}
 use Rattle.rules.specs.Body.{Record, Body, schedule, registration, countOf, parseRegistration, parseRest, parseBody, counted, every, isSchedule}
-use Rattle.rules.specs.File.{File, file, need, recordDates, datesHold, ratesHold, checksumsHold, plantsHold, stages, withBody}
+use Rattle.rules.specs.File.{File, refuse, file, recordDates, datesHold, ratesHold, checksumsHold, plantsHold, stages, withBody}
+use Rattle.rules.specs.Table.{need}
 use Rattle.rules.specs.declared.Cause.{Cause}
 use Rattle.rules.specs.declared.Format.{Format}
 use Rattle.rules.specs.declared.Format.the-variants.{F201, F202, F203, F301}
@@ -43,7 +44,7 @@ unfolding stages readingOf
 stages-are n b = go (datesHold n b) (ratesHold b) (checksumsHold b) (plantsHold n b) (record { name = n; body = b })
   where
     go : (a b c d : Bool) (f : File)
-        → readingOf (need a Cause.Date (need b Cause.Rate (need c Cause.Checksum (need d Cause.RecordPlant (file f)))))
+        → readingOf (need a (refuse Cause.Date) (need b (refuse Cause.Rate) (need c (refuse Cause.Checksum) (need d (refuse Cause.RecordPlant) (file f)))))
         ≡ answer a b c d (Read (summaryOf f))
     go false b c d f = refl
     go true false c d f = refl

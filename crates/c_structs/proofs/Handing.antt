@@ -6,6 +6,9 @@ use lib.Dec.{eqb}
 use borrow.Author.Tests.{eqb-true}
 use Rattle.rules.specs.Store.{soundClock}
 use Rattle.rules.specs.declared.Answer.{Answer}
+use Rattle.plant.specs.Plant.{keptOf, isKept, settingsOf}
+use Rattle.plant.specs.declared.Settings.{Settings as Kept}
+use Rattle.plant.proofs.Laws.{valid-facts, in-range-kept, narrowed-kept, kept-whole}
 use Rattle.pool.proofs.BelowLaws.{and-true}
 use Rattle.unit.specs.Values.{clockOf, isSound}
 use Rattle.unit.specs.declared.Unit.{Unit}
@@ -13,7 +16,7 @@ use Rattle.unit.specs.declared.Done.{Done}
 use Rattle.unit.specs.declared.Clock.{Clock}
 use Rattle.unit.specs.declared.Clock.the-variants.{Unset, At}
 use Rattle.unit.proofs.SoundParts.{sound-parts}
-use Rattle.c_structs.specs.Held.{never, clockFrom, markOf, secondOf, isHeldClock, opened, shutOf, handed, handedBy}
+use Rattle.c_structs.specs.Held.{settingsIn, settingsHeld, never, clockFrom, markOf, secondOf, isHeldClock, isHeldUnit, opened, shutOf, handed, handedBy}
 use Rattle.c_structs.specs.Handing.{UnitBack, HeldByUnit, StructBack, NoUnit, RefusalHandsBack}
 use Rattle.c_structs.specs.declared.structs.HeldUnit.{HeldUnit}
 
@@ -24,7 +27,7 @@ clock-back (At t) = refl
 
 pub unit-back : UnitBack
 unfolding opened shutOf
-unit-back u = rw (clock-back (u .clock)) refl
+unit-back u k = rw (clock-back (u .clock), kept-whole (settingsOf (u .plant)) k) refl
 
 clock-held : (c : Clock) → isHeldClock (markOf c) (secondOf c) ≡ true
 unfolding isHeldClock
@@ -32,10 +35,14 @@ clock-held Unset = refl
 clock-held (At t) = refl
 
 pub held-by-unit : HeldByUnit
-unfolding shutOf
-held-by-unit u = clock-held (u .clock)
+unfolding shutOf isHeldUnit
+held-by-unit u k = rw (clock-held (u .clock), k)
 
 -- ---- a struct that a unit converts to comes back as it was
+
+held-parts : (h : HeldUnit) → isHeldUnit h ≡ true → (isHeldClock (h .«clock_set») (h .clock) ≡ true) × (isKept (settingsIn (h .settings)) ≡ true)
+unfolding isHeldUnit
+held-parts h e = and-true (isHeldClock (h .«clock_set») (h .clock)) (isKept (settingsIn (h .settings))) e
 
 module _ (m s : ℕ) where
   abbrev Back : Type 0
@@ -64,8 +71,10 @@ module _ (m s : ℕ) where
 pub struct-back : StructBack
 unfolding opened shutOf
 struct-back h e =
-    let back = fields-back (h .«clock_set») (h .clock) e in
-    rw (back .0, back .1) refl
+    let held = held-parts h e in
+    let back = fields-back (h .«clock_set») (h .clock) (held .0) in
+    let settings = ap (λ (k : Kept). settingsHeld (keptOf k)) (kept-whole (settingsIn (h .settings)) (held .1)) in
+    rw (back .0, back .1, settings) refl
 
 -- ---- any other struct is no sound unit
 
@@ -73,15 +82,37 @@ opened-clock : (h : HeldUnit) → opened h .clock ≡ clockFrom (h .«clock_set�
 unfolding opened
 opened-clock h = refl
 
+-- a sound unit's clock and settings are such as units have
+module _ (h : HeldUnit) (sound : isSound (opened h) ≡ true) where
+  clock-such : isHeldClock (h .«clock_set») (h .clock) ≡ true
+  clock-such = go (isHeldClock (h .«clock_set») (h .clock)) refl
+    where
+      go : (t : Bool) → isHeldClock (h .«clock_set») (h .clock) ≡ t → isHeldClock (h .«clock_set») (h .clock) ≡ true
+      go true e = e
+      go false e =
+          let late : soundClock (clockOf (opened h .clock)) ≡ false = rw (opened-clock h, never-from (h .«clock_set») (h .clock) e) refl in
+          absurd (false≢true (sym late ∙ sound-parts (opened h) sound .clock))
+
+  settings-such : isKept (settingsIn (h .settings)) ≡ true
+  unfolding opened
+  settings-such = narrowed-kept (settingsIn (h .settings)) (valid-facts (opened h .plant) (sound-parts (opened h) sound .plant) .settings)
+
 pub no-unit : NoUnit
+unfolding isHeldUnit
 no-unit h e = go (isSound (opened h)) refl
   where
-    late : soundClock (clockOf (opened h .clock)) ≡ false
-    late = rw (opened-clock h, never-from (h .«clock_set») (h .clock) e) refl
-
     go : (t : Bool) → isSound (opened h) ≡ t → isSound (opened h) ≡ false
     go false k = k
-    go true k = absurd (false≢true (sym late ∙ sound-parts (opened h) k .clock))
+    go true k = absurd (false≢true (sym e ∙ rw (clock-such h k, settings-such h k)))
+
+-- ---- settings that no unit has
+
+pub sound-kept : (u : Unit) → isSound u ≡ true → isKept (settingsOf (u .plant)) ≡ true
+sound-kept u e = in-range-kept (settingsOf (u .plant)) (valid-facts (u .plant) (sound-parts u e .plant) .settings)
+
+pub wide-held : (u : Unit) → isKept (settingsOf (u .plant)) ≡ false → isHeldUnit (shutOf u) ≡ false
+unfolding shutOf isHeldUnit
+wide-held u k = rw (clock-held (u .clock), k)
 
 -- ---- refusals
 

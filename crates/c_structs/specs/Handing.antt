@@ -6,23 +6,24 @@ use mathlib.Core.Bool.{true, false}
 use Rattle.unit.specs.Values.{isSound}
 use Rattle.unit.specs.declared.Unit.{Unit}
 use Rattle.unit.specs.declared.Done.{Done}
-use Rattle.c_structs.specs.Held.{isHeldClock, opened, shutOf, handed}
+use Rattle.plant.specs.Plant.{isKept, settingsOf}
+use Rattle.c_structs.specs.Held.{isHeldUnit, opened, shutOf, handed}
 use Rattle.c_structs.specs.declared.structs.HeldUnit.{HeldUnit}
 
--- every unit converts to the struct and back to itself
+-- every unit converts to the struct and back to itself: `isKept` says that its settings are u32, as those of every unit are
 abbrev pub UnitBack : Type 0
-UnitBack = (u : Unit) → opened (shutOf u) ≡ u
+UnitBack = (u : Unit) → isKept (settingsOf (u .plant)) ≡ true → opened (shutOf u) ≡ u
 
--- the structs that units convert to are those whose clock mark is 1, or 0 with second 0
+-- the structs that units convert to are those whose clock mark is 1, or 0 with second 0, and whose settings 32 bits hold
 abbrev pub HeldByUnit : Type 0
-HeldByUnit = (u : Unit) → isHeldClock (shutOf u .«clock_set») (shutOf u .clock) ≡ true
+HeldByUnit = (u : Unit) → isKept (settingsOf (u .plant)) ≡ true → isHeldUnit (shutOf u) ≡ true
 
 abbrev pub StructBack : Type 0
-StructBack = (h : HeldUnit) → isHeldClock (h .«clock_set») (h .clock) ≡ true → shutOf (opened h) ≡ h
+StructBack = (h : HeldUnit) → isHeldUnit h ≡ true → shutOf (opened h) ≡ h
 
 -- any other struct is opened as a unit that is not sound, so that every call refuses it with 4, or with 3 first
 abbrev pub NoUnit : Type 0
-NoUnit = (h : HeldUnit) → isHeldClock (h .«clock_set») (h .clock) ≡ false → isSound (opened h) ≡ false
+NoUnit = (h : HeldUnit) → isHeldUnit h ≡ false → isSound (opened h) ≡ false
 
 -- whatever a call on the opened unit did: where the number is a cause's, the struct is the very one that came in
 abbrev pub RefusalHandsBack : Type 0

@@ -4,6 +4,8 @@ use mathlib.Core.Bool.{Bool, true, false, cond, _&&_}
 use lib.Dec.{eqb}
 use Rattle.rules.specs.Causes.{numberOf}
 use Rattle.rules.specs.declared.Answer.{Answer}
+use Rattle.rules.specs.Plant.{Settings}
+use Rattle.plant.specs.Plant.{keptFrom, narrowed, isKept, settingsOf}
 use Rattle.plant.specs.declared.Plant.{Plant}
 use Rattle.pool.specs.declared.Pool.{Pool}
 use Rattle.polling.specs.declared.Requests.{Requests}
@@ -12,8 +14,16 @@ use Rattle.unit.specs.declared.Done.{Done}
 use Rattle.unit.specs.declared.Installed.{Installed}
 use Rattle.unit.specs.declared.Clock.{Clock}
 use Rattle.unit.specs.declared.Clock.the-variants.{Unset, At}
+use Rattle.c_structs.specs.declared.structs.HeldSettings.{HeldSettings}
 use Rattle.c_structs.specs.declared.structs.HeldUnit.{HeldUnit}
 use Rattle.c_structs.specs.declared.structs.Handed.{Handed}
+
+-- the settings that C gives or holds, and the struct of settings
+abbrev pub settingsIn : HeldSettings → Settings
+settingsIn h = record { panel = h .panel; inverter = h .inverter; minutes = h .minutes }
+
+abbrev pub settingsHeld : Settings → HeldSettings
+settingsHeld s = record { panel = s .panel; inverter = s .inverter; minutes = s .minutes }
 
 -- a clock that is not below T
 abbrev pub never : Clock
@@ -35,10 +45,14 @@ secondOf (At t) = t
 unfoldable pub isHeldClock : ℕ → ℕ → Bool
 isHeldClock mark second = cond (eqb mark 1) true (eqb mark 0 && eqb second 0)
 
+-- whether some unit converts to the struct: it has such a clock, and 32 bits hold the settings
+unfoldable pub isHeldUnit : HeldUnit → Bool
+isHeldUnit h = isHeldClock (h .«clock_set») (h .clock) && isKept (settingsIn (h .settings))
+
 -- the unit that a struct stands for
 unfoldable pub opened : HeldUnit → Unit
 opened h = record {
-  plant = record { id = h .id; mac = h .mac; panel = h .panel; inverter = h .inverter; minutes = h .minutes };
+  plant = record { id = h .id; mac = h .mac; settings = keptFrom (narrowed (settingsIn (h .settings))) };
   pool = record { months = h .months; free = h .free };
   requests = record {
     «wanted_flag» = h .«wanted_flag»;
@@ -62,15 +76,13 @@ shutOf u = record {
   failures = u .requests .failures;
   «clock_set» = markOf (u .clock);
   floor = u .floor;
-  panel = u .plant .panel;
-  inverter = u .plant .inverter;
-  minutes = u .plant .minutes;
+  months = u .pool .months;
+  free = u .pool .free;
   clock = secondOf (u .clock);
   command = u .command;
   «fixed_at» = u .requests .«fixed_at»;
   «update_at» = u .requests .«update_at»;
-  months = u .pool .months;
-  free = u .pool .free;
+  settings = settingsHeld (settingsOf (u .plant));
 }
 
 -- 0, or the cause's number in 01's table

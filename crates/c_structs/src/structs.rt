@@ -1,6 +1,8 @@
 // The unit as C holds it, and the unit that it stands for.
 ghost use mathlib.Core.Path.{_≡_};
-ghost use Rattle.c_structs.specs.Held.{clockFrom, markOf, secondOf, opened, shutOf, answerNumber, handed, newly};
+ghost use Rattle.plant.specs.Plant.{givenOf};
+ghost use Rattle.c_structs.specs.Held.{settingsIn, settingsHeld, clockFrom, markOf, secondOf, opened, shutOf, answerNumber, handed, newly};
+use plant::GivenSettings;
 use plant::Plant;
 use pool::Pool;
 use polling::Requests;
@@ -10,6 +12,14 @@ use unit::Clock;
 use unit::Done;
 use unit::Installed;
 use unit::Unit;
+
+// The settings in fields of fixed layout: wide, as an installer gives them.
+#[repr(C)]
+pub struct HeldSettings {
+    pub panel: u64,
+    pub inverter: u64,
+    pub minutes: u64,
+}
 
 // A unit in fields of fixed layout. clock_set is 1 and clock the second where the clock is set; else both are 0.
 #[repr(C)]
@@ -21,15 +31,13 @@ pub struct HeldUnit {
     pub failures: u8,
     pub clock_set: u8,
     pub floor: u16,
-    pub panel: u32,
-    pub inverter: u32,
-    pub minutes: u32,
+    pub months: [u16; BLOCK_COUNT],
+    pub free: u16,
     pub clock: u32,
     pub command: u32,
     pub fixed_at: u64,
     pub update_at: u64,
-    pub months: [u16; BLOCK_COUNT],
-    pub free: u16,
+    pub settings: HeldSettings,
 }
 
 // A unit after a call, and 0 or the number of the cause that refused it.
@@ -37,6 +45,28 @@ pub struct HeldUnit {
 pub struct Handed {
     pub unit: HeldUnit,
     pub cause: u32,
+}
+
+// The settings that C gives or holds.
+pub fn given_settings(held: HeldSettings) -> GivenSettings
+    ensures { λ r. ⌜ givenOf r ≡ settingsIn held ⌝ }
+{
+    GivenSettings {
+        panel: held.panel,
+        inverter: held.inverter,
+        minutes: held.minutes,
+    }
+}
+
+// The settings for C to hold.
+fn held_settings(given: GivenSettings) -> HeldSettings
+    ensures { λ r. ⌜ r ≡ settingsHeld (givenOf given) ⌝ }
+{
+    HeldSettings {
+        panel: given.panel,
+        inverter: given.inverter,
+        minutes: given.minutes,
+    }
 }
 
 // A clock that no sound unit has.
@@ -73,22 +103,18 @@ fn second_of(clock: Clock) -> u32
     }
 }
 
-// The unit that C holds, or one that is not sound where it holds none.
+// The unit that C holds, or one that is not sound where it holds none: a setting that a unit has no room for is out of its range.
 pub fn open(held: HeldUnit) -> Unit
     ensures { λ r. ⌜ r ≡ opened held ⌝ }
 {
     let id = held.id;
     let mac = held.mac;
     let months = held.months;
+    let given = given_settings(held.settings);
+    let settings = given.narrowed();
     let clock = clock_from(held.clock_set, held.clock);
     Unit {
-        plant: Plant {
-            id,
-            mac,
-            panel: held.panel,
-            inverter: held.inverter,
-            minutes: held.minutes,
-        },
+        plant: Plant { id, mac, settings },
         pool: Pool {
             months,
             free: held.free,
@@ -125,15 +151,13 @@ pub fn shut(unit: Unit) -> HeldUnit
         failures: requests.failures,
         clock_set: mark_of(clock),
         floor: unit.floor,
-        panel: plant.panel,
-        inverter: plant.inverter,
-        minutes: plant.minutes,
+        months,
+        free: pool.free,
         clock: second_of(clock),
         command: unit.command,
         fixed_at: requests.fixed_at,
         update_at: requests.update_at,
-        months,
-        free: pool.free,
+        settings: held_settings(plant.settings.widened()),
     }
 }
 

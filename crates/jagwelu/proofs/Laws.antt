@@ -13,10 +13,10 @@ use Rattle.rules.specs.declared.ErrorCode.{ErrorCode}
 use Rattle.error_file.proofs.File.{headed}
 use Rattle.schedule.specs.Stored.{storeHolds}
 use Rattle.rules.specs.Writer.{writtenOf}
+use Rattle.rules.specs.Table.{firstOf}
 use Rattle.unit.specs.Asked.{dueAsked, ceilingAsked, commandAsked, freeAsked, requestAsked}
 use Rattle.unit.specs.Calls.{dueOf, ceilingOf, commandOf, freeOf}
 use Rattle.unit.specs.Request.{requestOf}
-use Rattle.unit.specs.Rows.{firstOf}
 use Rattle.unit.specs.Values.{isSound}
 use Rattle.unit.specs.declared.Unit.{Unit}
 use Rattle.unit.specs.declared.DueAsked.{DueAsked}

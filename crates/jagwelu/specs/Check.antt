@@ -3,8 +3,9 @@ use Prim.Native.Nat.{ℕ}
 use mathlib.Core.List.{List, [], _∷_}
 use mathlib.Core.Option.{Option, none, some}
 use Rattle.rules.specs.Causes.{numberOf}
+use Rattle.rules.specs.Table.{firstOf}
 use Rattle.rules.specs.declared.Cause.{Cause}
-use Rattle.unit.specs.Rows.{firstOf, lengthRow, soundRow}
+use Rattle.unit.specs.Rows.{lengthRow, soundRow}
 use Rattle.unit.specs.declared.Unit.{Unit}
 
 abbrev pub causeNumber : Option Cause → ℕ

@@ -9,13 +9,12 @@ ghost use Rattle.rules.specs.File.{readFile};
 ghost use Rattle.rules.specs.Reading.{readingOf};
 ghost use Rattle.rules.specs.Writer.{writeBody, writtenOf, bufferAfter};
 ghost use Rattle.rules.specs.declared.Kind.{Kind as KindOf};
-ghost use Rattle.plant.specs.Plant.{settings};
 ghost use Rattle.unit.specs.Calls.{tickOf, lostOf, failureOf, dueOf, ceilingOf, commandOf, freeOf};
 ghost use Rattle.taking.specs.Taken.{takeOf, storeAfterTake};
 ghost use Rattle.unit.specs.Request.{requestOf};
 ghost use Rattle.unit.specs.Values.{installedUnit};
 ghost use Rattle.writer.specs.Fields.{fieldsOf};
-ghost use Rattle.c_structs.specs.Held.{opened, handed, newly};
+ghost use Rattle.c_structs.specs.Held.{settingsIn, opened, handed, newly};
 ghost use Rattle.jagwelu.specs.Check.{checkNumber};
 ghost use Rattle.c_structs.specs.Answers.{dueNumbers, ceilingNumbers, commandNumber, blocksNumber, writtenNumbers, fileNumbers, errorNumbers};
 pub use bodies::jag_copy_rates;
@@ -25,6 +24,7 @@ use c_structs::DueAnswer;
 use c_structs::ErrorAnswer;
 use c_structs::FileAnswer;
 use c_structs::Handed;
+use c_structs::HeldSettings;
 use c_structs::HeldUnit;
 use c_structs::Number;
 use c_structs::WrittenBytes;
@@ -37,16 +37,11 @@ use unit::Unit;
 const TEXT_PLACE: usize = 6;
 
 #[no_mangle]
-pub extern "C" fn jag_install(
-    id: &[u8],
-    mac: &[u8],
-    panel: u64,
-    inverter: u64,
-    minutes: u64,
-) -> Handed
-    ensures { λ r. ⌜ r ≡ newly (installedUnit (now (id .entry)) (now (mac .entry)) (settings panel inverter minutes)) ⌝ }
+pub extern "C" fn jag_install(id: &[u8], mac: &[u8], settings: HeldSettings) -> Handed
+    ensures { λ r. ⌜ r ≡ newly (installedUnit (now (id .entry)) (now (mac .entry)) (settingsIn settings)) ⌝ }
 {
-    let installed = Unit::install(id, mac, panel, inverter, minutes);
+    let given = c_structs::given_settings(settings);
+    let installed = Unit::install(id, mac, given);
     c_structs::hand_new(installed)
 }
 

@@ -11,8 +11,9 @@ use lib.ListN.{length, take, length-take}
 use lib.Seq.{take-all, take-nil}
 use Rattle.rules.specs.Name.{Name, nameLength, nameShape, parseName}
 use Rattle.rules.specs.Body.{Body, parseBody}
-use Rattle.rules.specs.File.{refuse, need, idFits, withBody, withName, readFile}
+use Rattle.rules.specs.File.{refuse, idFits, withBody, withName, readFile}
 use Rattle.rules.specs.Lister.{namePart, bodyPart, lineOf, line}
+use Rattle.rules.specs.Table.{need}
 use Rattle.rules.specs.declared.Cause.{Cause}
 use Rattle.rules.specs.declared.Format.{Format}
 use Rattle.listing.specs.Bound.{longestBody, enough}
@@ -62,7 +63,7 @@ read-bounded plant name body = go (parseName name)
   where
     go : (o : Option Name) → withName plant (take (longestBody + 1) body) o ≡ withName plant body o
     go none = refl
-    go (some n) = ap (λ (b : Option Body). need (idFits plant (n .plant)) Cause.OtherPlant (withBody n b)) (body-bounded (n .format) body)
+    go (some n) = ap (λ (b : Option Body). need (idFits plant (n .plant)) (refuse Cause.OtherPlant) (withBody n b)) (body-bounded (n .format) body)
 
 -- ---- a name of another length is refused, whatever follows
 

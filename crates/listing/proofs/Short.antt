@@ -13,15 +13,14 @@ use Rattle.rules.specs.Digits.{allDigits, part}
 use Rattle.rules.specs.Calendar.{exists, wholeMinute, monthAt, slotsOfMonth}
 use Rattle.rules.specs.Name.{Name, formatNumber, parseName}
 use Rattle.rules.specs.Body.{Record, Body, schedule, registration, parseRecords, parseRegistration, parseRest, counted, parseBody}
-use Rattle.rules.specs.File.{Outcome, refuse, file, need, idFits, monthBegins, wholeMonth, monthsFrom, firstMonth, recordDates, datesHold, ratesHold, checksumsHold, plantsHold, stages, withBody, withName, readFile}
-use Rattle.rules.specs.Causes.{numberOf}
+use Rattle.rules.specs.File.{Outcome, refuse, file, idFits, monthBegins, wholeMonth, monthsFrom, firstMonth, recordDates, datesHold, ratesHold, checksumsHold, plantsHold, stages, withBody, withName, readFile}
 use Rattle.rules.specs.Lister.{totalRates, recordCount, rateCount}
+use Rattle.rules.specs.Table.{need}
 use Rattle.rules.specs.declared.Cause.{Cause}
 use Rattle.rules.specs.declared.Format.{Format}
 use Rattle.rules.specs.declared.Format.the-variants.{F201, F202, F203, F301}
 use Rattle.about_files.proofs.Booleans.{both}
 use Rattle.about_files.proofs.Calendar.{days-most}
-
 use Rattle.listing.proofs.Parsed.{nothing, parsed}
 
 pub format-small : (f : Format) → formatNumber f < 1000
@@ -29,24 +28,6 @@ format-small F201 = lit< tt
 format-small F202 = lit< tt
 format-small F203 = lit< tt
 format-small F301 = lit< tt
-
-pub cause-small : (c : Cause) → numberOf c < 100
-cause-small Cause.PlantId = lit< tt
-cause-small Cause.Setting = lit< tt
-cause-small Cause.StoreLength = lit< tt
-cause-small Cause.Unsound = lit< tt
-cause-small Cause.ClockUnset = lit< tt
-cause-small Cause.Range = lit< tt
-cause-small Cause.Name = lit< tt
-cause-small Cause.OtherPlant = lit< tt
-cause-small Cause.Form = lit< tt
-cause-small Cause.Date = lit< tt
-cause-small Cause.Rate = lit< tt
-cause-small Cause.Checksum = lit< tt
-cause-small Cause.RecordPlant = lit< tt
-cause-small Cause.Full = lit< tt
-cause-small Cause.Buffer = lit< tt
-cause-small Cause.ErrorFile = lit< tt
 
 -- ---- the rates of whole months
 
@@ -98,7 +79,7 @@ body-small n s (schedule rs) e d = go (counted (n .format) s) e
     go true q = records-small n (n .format) (drop 6 s) rs q d
     go false q = nothing q
 
-need-small : (b : Bool) (c : Cause) (o : Outcome) → (b ≡ true → SmallFile o) → SmallFile (need b c o)
+need-small : (b : Bool) (c : Cause) (o : Outcome) → (b ≡ true → SmallFile o) → SmallFile (need b (refuse c) o)
 need-small true c o h = h refl
 need-small false c o h = tt
 

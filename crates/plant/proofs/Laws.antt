@@ -4,16 +4,19 @@ use Prim.Native.Nat.{ℕ, zero, suc, _*_, _/_, _≤_, _<_, zero-le}
 use mathlib.Core.Path.{_≡_, _∙_, refl, ap}
 use mathlib.Core.Bool.{Bool, true, false, cond, _&&_, false≢true}
 use mathlib.Core.List.{List, [], _∷_}
-use native.Mathlib.Nat.{le-trans, mul-le-mul-left, mul-le-mul-right, mul-comm, min-le-right, div-zero, div-le-of-le-mul, div-mul-le-self, le-div-iff-mul-le}
+use native.Mathlib.Nat.{le-trans, mul-le-mul-left, mul-le-mul-right, mul-comm, min-le-right, min-eq-left, div-zero, div-le-of-le-mul, div-mul-le-self, le-div-iff-mul-le}
 use native.Mathlib.Omega.{arith}
 use lib.Dec.{leb, eqb}
 use lib.ListN.{length, getD}
-use borrow.Author.Tests.{leb-true, eqb-true}
+use borrow.Author.Tests.{le-leb, leb-true, eqb-true}
 use Rattle.rules.specs.Digits.{allAtMost, digits}
 use Rattle.rules.specs.Plant.{Settings, plantId, lastDigit, weightedSum, checkDigit, hexByte, allHex, macAddress, capacity, rampMinutes, validSettings, contracted, percent, partsOf, fullCommand, installing}
+use Rattle.rules.specs.Body.{highestRate}
+use Rattle.rules.specs.Store.{longestWait}
+use Rattle.rules.specs.Machine.{fixedWait, updateWait, refusedWait}
 use Rattle.rules.specs.declared.Answer.{Answer}
 use Rattle.rules.specs.declared.Cause.{Cause}
-use Rattle.plant.specs.Plant.{settings, settingsOf, validPlant, plantOf, noPlant, refusal, installed}
+use Rattle.plant.specs.Plant.{keptFrom, widest, narrowed, isKept, settingsOf, validPlant, plantOf, noPlant, refusal, installed}
 use Rattle.plant.specs.declared.Plant.{Plant}
 
 -- ---- what a valid plant has, as facts
@@ -35,6 +38,9 @@ pub record InRange (s : Settings) : Type 0 where
   pub inverter-most : s .inverter ≤ 2000000
   pub minutes-least : 5 ≤ s .minutes
   pub minutes-most : s .minutes ≤ 10
+  pub fixed-wait-most : fixedWait s ≤ longestWait
+  pub update-wait-most : updateWait s ≤ longestWait
+  pub refused-wait-most : refusedWait s ≤ longestWait
 
 pub record Valid (p : Plant) : Type 0 where
   pub id : Id (p .id)
@@ -88,7 +94,35 @@ settings-facts s e =
       inverter-most = leb-true _ _ (i .1);
       minutes-least = leb-true _ _ (m .0);
       minutes-most = leb-true _ _ (m .1);
+      fixed-wait-most = omega arith;
+      update-wait-most = omega arith;
+      refused-wait-most = omega arith;
     }
+
+-- ---- settings of 32 bits
+
+module _ (s : Settings) where
+  kept-by : s .panel ≤ widest → s .inverter ≤ widest → s .minutes ≤ widest → isKept s ≡ true
+  unfolding isKept
+  kept-by p i m = rw (le-leb _ _ p, le-leb _ _ i, le-leb _ _ m)
+
+  pub in-range-kept : InRange s → isKept s ≡ true
+  in-range-kept v = kept-by (omega arith) (omega arith) (omega arith)
+
+  -- what 32 bits do not hold is not kept as settings in range
+  pub narrowed-kept : InRange (narrowed s) → isKept s ≡ true
+  narrowed-kept v = kept-by (omega arith) (omega arith) (omega arith)
+
+  -- and what they hold is kept as it is
+  pub kept-whole : isKept s ≡ true → keptFrom (narrowed s) ≡ keptFrom s
+  unfolding isKept
+  kept-whole e =
+      let w = both (leb (s .panel) widest && leb (s .inverter) widest) (leb (s .minutes) widest) e in
+      let v = both (leb (s .panel) widest) (leb (s .inverter) widest) (w .0) in
+      let p = min-eq-left (leb-true (s .panel) widest (v .0)) in
+      let i = min-eq-left (leb-true (s .inverter) widest (v .1)) in
+      let m = min-eq-left (leb-true (s .minutes) widest (w .1)) in
+      rw (p, i, m)
 
 pub valid-facts : (p : Plant) → validPlant p ≡ true → Valid p
 unfolding validPlant
@@ -161,13 +195,17 @@ unfolding percent
 percent-none s r e = ap (λ (k : ℕ). r * contracted s / k) e ∙ div-zero (r * contracted s)
 
 module _ (s : Settings) where
-  -- C is at most P, so p is at most r
+  -- C is at most P
+  contracted-most : contracted s ≤ s .inverter
+  contracted-most = min-le-right (s .panel) (s .inverter)
+
+  -- so p is at most r
   pub percent-le : (r : ℕ) → percent s r ≤ r
   unfolding percent
   percent-le r =
-      div-le-of-le-mul (s .inverter) (rw (mul-comm (s .inverter) r) (mul-le-mul-left r (min-le-right (s .panel) (s .inverter))))
+      div-le-of-le-mul (s .inverter) (rw (mul-comm (s .inverter) r) (mul-le-mul-left r contracted-most))
 
-  pub percent-most : (r : ℕ) → r ≤ 100 → percent s r ≤ 100
+  pub percent-most : (r : ℕ) → r ≤ highestRate → percent s r ≤ 100
   percent-most r h = le-trans (percent-le r) h
 
   pub percent-rises : (q r : ℕ) → q ≤ r → percent s q ≤ percent s r
@@ -175,7 +213,7 @@ module _ (s : Settings) where
   percent-rises q r h = quotient-rises (s .inverter) (mul-le-mul-right (contracted s) h)
 
   -- the command never aims above 100%
-  pub parts-most : (r : ℕ) → r ≤ 100 → partsOf s (percent s r) ≤ fullCommand s
+  pub parts-most : (r : ℕ) → r ≤ highestRate → partsOf s (percent s r) ≤ fullCommand s
   parts-most r h = le-trans (mul-le-mul-left (60 * s .minutes) (percent-most r h)) (omega arith)
 
   -- N is at most 10, so no command is above 60,000 parts

@@ -2,8 +2,8 @@
 ghost use mathlib.Core.Path.{_≡_};
 ghost use Prim.Native.Nat.{_≤_, min};
 ghost use lib.ListN.{length};
-ghost use Rattle.rules.specs.Plant.{plantId, weightedSum, macAddress, allHex, hexByte, validSettings, capacity, percent, partsOf, lastDigit, installing};
-ghost use Rattle.plant.specs.Plant.{settings, settingsOf, validPlant, plantOf, installed, refusal};
+ghost use Rattle.rules.specs.Plant.{plantId, weightedSum, macAddress, allHex, hexByte, validSettings, capacity, contracted, percent, partsOf, lastDigit, installing};
+ghost use Rattle.plant.specs.Plant.{keptOf, keptFrom, givenOf, widest, narrowed, settingsOf, validPlant, plantOf, installed, refusal};
 use rules::Answer;
 use rules::Cause;
 
@@ -32,13 +32,27 @@ const MOST_MINUTES: u64 = 10;
 // One percent is 60 × N parts of the command.
 const PARTS_OF_PERCENT: u64 = 60;
 
-// A plant: panel and inverter are capacities in W, the inverter's is P, and minutes is N, the ramp minutes.
-pub struct Plant {
-    pub id: [u8; ID_LENGTH],
-    pub mac: [u8; MAC_LENGTH],
+// The greatest number of 32 bits: no setting may be it.
+const WIDEST: u64 = 4294967295;
+
+// The settings as a plant keeps them: panel and inverter are capacities in W, the inverter's is P, and minutes is N, the ramp minutes.
+pub struct Settings {
     pub panel: u32,
     pub inverter: u32,
     pub minutes: u32,
+}
+
+// The settings as an installer gives them: wide, so that no value is cut before its range is judged.
+pub struct GivenSettings {
+    pub panel: u64,
+    pub inverter: u64,
+    pub minutes: u64,
+}
+
+pub struct Plant {
+    pub id: [u8; ID_LENGTH],
+    pub mac: [u8; MAC_LENGTH],
+    pub settings: Settings,
 }
 
 // The answer to install, and the plant where it is accepted; else zeros, which are no valid plant.
@@ -105,13 +119,11 @@ fn is_capacity(watts: u64) -> bool
     (1 <= watts) & (watts <= MOST_WATTS)
 }
 
-// Whether the capacities and N are in range. Wide, so that no caller's value is cut on its way here.
-pub fn are_settings(panel: u64, inverter: u64, minutes: u64) -> bool
-    ensures { λ r. ⌜ r ≡ validSettings (settings panel inverter minutes) ⌝ }
+// What 32 bits hold of a number: the widest where they do not hold it.
+fn narrow(wide: u64) -> u32
+    ensures { λ r. ⌜ r ≡ min wide widest ⌝ }
 {
-    is_capacity(panel)
-        & is_capacity(inverter)
-        & ((LEAST_MINUTES <= minutes) & (minutes <= MOST_MINUTES))
+    if wide <= WIDEST { wide as u32 } else { WIDEST as u32 }
 }
 
 // Copies a whole slice.
@@ -133,24 +145,61 @@ fn least(a: u64, b: u64) -> u64
     if a <= b { a } else { b }
 }
 
+impl GivenSettings {
+    // Whether each is in range.
+    pub fn valid(self) -> bool
+        ensures { λ r. ⌜ r ≡ validSettings (givenOf self) ⌝ }
+    {
+        is_capacity(self.panel)
+            & is_capacity(self.inverter)
+            & ((LEAST_MINUTES <= self.minutes) & (self.minutes <= MOST_MINUTES))
+    }
+
+    // The settings to keep, each as it is where 32 bits hold it; else it is the widest, which is out of range.
+    pub fn narrowed(self) -> Settings
+        ensures { λ r. ⌜ r ≡ keptFrom (narrowed (givenOf self)) ⌝ }
+    {
+        Settings {
+            panel: narrow(self.panel),
+            inverter: narrow(self.inverter),
+            minutes: narrow(self.minutes),
+        }
+    }
+}
+
+impl Settings {
+    // The same numbers, as an installer gives them.
+    pub fn widened(self) -> GivenSettings
+        ensures { λ r. ⌜ givenOf r ≡ keptOf self ⌝ }
+    {
+        GivenSettings {
+            panel: self.panel as u64,
+            inverter: self.inverter as u64,
+            minutes: self.minutes as u64,
+        }
+    }
+
+    // C, the lesser capacity.
+    fn contracted(self) -> u64
+        ensures { λ r. ⌜ r ≡ contracted (keptOf self) ⌝ }
+    {
+        least(self.panel as u64, self.inverter as u64)
+    }
+}
+
 // The plant of values that installing accepts.
-fn make(id: &[u8], mac: &[u8], panel: u64, inverter: u64, minutes: u64) -> Plant
-    requires { ⌜ installing (now id) (now mac) (settings panel inverter minutes) ≡ Answer.Accepted ⌝ }
-    ensures { λ r. ⌜ r ≡ plantOf (now (id .entry)) (now (mac .entry)) (settings panel inverter minutes) ⌝ }
+fn make(id: &[u8], mac: &[u8], given: GivenSettings) -> Plant
+    requires { ⌜ installing (now id) (now mac) (givenOf given) ≡ Answer.Accepted ⌝ }
+    ensures { λ r. ⌜ r ≡ plantOf (now (id .entry)) (now (mac .entry)) (givenOf given) ⌝ }
 {
     let mut own_id = [0u8; ID_LENGTH];
     copy(&mut own_id, id);
     let mut own_mac = [0u8; MAC_LENGTH];
     copy(&mut own_mac, mac);
-    let panel = panel as u32;
-    let inverter = inverter as u32;
-    let minutes = minutes as u32;
     Plant {
         id: own_id,
         mac: own_mac,
-        panel,
-        inverter,
-        minutes,
+        settings: given.narrowed(),
     }
 }
 
@@ -163,27 +212,29 @@ fn refuse(cause: Cause) -> Installed
         plant: Plant {
             id: [0u8; ID_LENGTH],
             mac: [0u8; MAC_LENGTH],
-            panel: 0,
-            inverter: 0,
-            minutes: 0,
+            settings: Settings {
+                panel: 0,
+                inverter: 0,
+                minutes: 0,
+            },
         },
     }
 }
 
 impl Plant {
     // A plant of these values, or cause 1 or 2.
-    pub fn install(id: &[u8], mac: &[u8], panel: u64, inverter: u64, minutes: u64) -> Installed
-        ensures { λ r. ⌜ r ≡ installed (now (id .entry)) (now (mac .entry)) (settings panel inverter minutes) ⌝ }
+    pub fn install(id: &[u8], mac: &[u8], given: GivenSettings) -> Installed
+        ensures { λ r. ⌜ r ≡ installed (now (id .entry)) (now (mac .entry)) (givenOf given) ⌝ }
     {
         if !is_plant_id(id) {
             return refuse(Cause::PlantId);
         }
-        if !(is_mac_address(mac) & are_settings(panel, inverter, minutes)) {
+        if !(is_mac_address(mac) & given.valid()) {
             return refuse(Cause::Setting);
         }
         Installed {
             answer: Answer::Accepted,
-            plant: make(id, mac, panel, inverter, minutes),
+            plant: make(id, mac, given),
         }
     }
 
@@ -193,30 +244,25 @@ impl Plant {
     {
         let id = self.id;
         let mac = self.mac;
-        is_plant_id(&id)
-            & is_mac_address(&mac)
-            & are_settings(self.panel as u64, self.inverter as u64, self.minutes as u64)
+        is_plant_id(&id) & is_mac_address(&mac) & self.settings.widened().valid()
     }
 
     // p, in percent of the inverter's capacity P, from the rate r, in percent of C; 0 where P is 0.
     pub fn percent(self, rate: u8) -> u8
         ensures { λ r. ⌜ r ≡ percent (settingsOf self) rate ⌝ }
     {
-        let panel = self.panel as u64;
-        let inverter = self.inverter as u64;
+        let inverter = self.settings.inverter as u64;
         if inverter == 0 {
             return 0;
         }
-        // C, the lesser capacity.
-        let contracted = least(panel, inverter);
-        ((rate as u64) * contracted / inverter) as u8
+        ((rate as u64) * self.settings.contracted() / inverter) as u8
     }
 
     // The parts that the command goes to at the rate r: p percent. Wide, so that they fit for every u32 N.
     pub fn target(self, rate: u8) -> u64
         ensures { λ r. ⌜ r ≡ partsOf (settingsOf self) (percent (settingsOf self) rate) ⌝ }
     {
-        PARTS_OF_PERCENT * (self.minutes as u64) * (self.percent(rate) as u64)
+        PARTS_OF_PERCENT * (self.settings.minutes as u64) * (self.percent(rate) as u64)
     }
 
     // The ID's last digit.

@@ -15,4 +15,4 @@ picked false false w = refl
 
 pub due-as-machine : DueAsMachine
 unfolding dueFor dueOf
-due-as-machine d t q = picked (leb (q .updateAt) t) (asksFixed d t q) (q .wantedFlag)
+due-as-machine s d t q = picked (leb (q .updateAt) t) (asksFixed s d t q) (q .wantedFlag)

@@ -1,43 +1,38 @@
 // What the unit asks the server for, and when (01, The plain machine): the flags w and h, the failures k, the fixed time f and the update time u.
 ghost use mathlib.Core.Path.{_≡_};
 ghost use mathlib.Core.Bool.{cond};
-ghost use Prim.Native.Nat.{_≤_};
+ghost use Prim.Native.Nat.{_<_};
+ghost use Rattle.rules.specs.Calendar.{dayLength};
 ghost use Rattle.rules.specs.Store.{soundRequests, freshRequests};
 ghost use Rattle.rules.specs.Machine.{updateTime, takeUpdate, takeYear, failedUpdate, failedFixed, failed, isStatus, isClientError, updateWait, refusedWait, windowStart, inWindow, nextWindow};
+ghost use Rattle.plant.specs.Plant.{keptOf};
 ghost use Rattle.polling.specs.Requests.{requestsOf, requestsFrom};
 ghost use Rattle.polling.specs.Due.{dueFor};
+
+mod habits;
+
+use habits::fixed_wait;
+use habits::refused_wait;
+use habits::retries;
+use habits::update_wait;
+use habits::window_length;
+use plant::Settings;
+use rules::DAY_LENGTH;
 use rules::Due;
+use rules::END_OF_TIME;
 use rules::Kind;
+use rules::LONGEST_WAIT;
 
 // 'flags 0 to 10 (10 is none)'.
 pub const NO_FLAG: u8 = 10;
 
-// 'failures 0 to 5', and 'k < 5'.
-const RETRIES: u8 = 5;
-
-const DAY: u32 = 86400;
-
-// 'below T = 3,155,760,000'.
-const END_OF_TIME: u64 = 36525 * 86400;
-
 // 'f and u below T + 172,800'.
-const LATEST: u64 = END_OF_TIME + 172800;
+const LATEST: u64 = END_OF_TIME as u64 + LONGEST_WAIT as u64;
 
-// 'u = clock + 1,800'.
-const UPDATE_WAIT: u64 = 1800;
-
-// 'for 400-499 clock + 86,400'.
-const REFUSED_WAIT: u64 = 86400;
-
-// 'f = clock + 300'.
-const FIXED_WAIT: u64 = 300;
-
-// 'Window for check digit d: 20 minutes from 21:10:00 + 30 × d minutes'.
+// 'Window for check digit d: .. from 21:10:00 + 30 × d minutes'.
 const FIRST_WINDOW: u32 = 21 * 3600 + 10 * 60;
 
 const WINDOW_STEP: u32 = 1800;
-
-const WINDOW_LENGTH: u32 = 1200;
 
 // wanted_flag is w, held_flag h, failures k, fixed_at f and update_at u.
 pub struct Requests {
@@ -63,44 +58,43 @@ fn is_client_error(status: u64) -> bool
 }
 
 // How long an update waits after a failure.
-fn update_wait(status: u64) -> u64
-    ensures exact { λ r. ⌜ r ≡ cond (isClientError status) refusedWait updateWait ⌝ }
-    ensures bound { λ r. ⌜ r ≤ 86400 ⌝ }
+fn wait_after(settings: Settings, status: u64) -> u32
+    ensures { λ r. ⌜ r ≡ cond (isClientError status) (refusedWait (keptOf settings)) (updateWait (keptOf settings)) ⌝ }
 {
     if is_client_error(status) {
-        REFUSED_WAIT
+        refused_wait(settings)
     } else {
-        UPDATE_WAIT
+        update_wait(settings)
     }
 }
 
 // When the window of a check digit begins, in seconds of the day.
 fn window_start(digit: u8) -> u32
     ensures exact { λ r. ⌜ r ≡ windowStart digit ⌝ }
-    ensures bound { λ r. ⌜ r ≤ 86399 ⌝ }
+    ensures bound { λ r. ⌜ r < dayLength ⌝ }
 {
-    (FIRST_WINDOW + WINDOW_STEP * digit as u32) % DAY
+    (FIRST_WINDOW + WINDOW_STEP * digit as u32) % DAY_LENGTH
 }
 
-// Whether a second stands in the window.
-fn in_window(digit: u8, clock: u32) -> bool
-    ensures { λ r. ⌜ r ≡ inWindow digit clock ⌝ }
+// Whether a second stands in the window, which may pass midnight.
+fn in_window(settings: Settings, digit: u8, clock: u32) -> bool
+    ensures { λ r. ⌜ r ≡ inWindow (keptOf settings) digit clock ⌝ }
 {
-    let time = clock % DAY;
-    let start = window_start(digit);
-    (start <= time) & (time < start + WINDOW_LENGTH)
+    let time = clock % DAY_LENGTH;
+    let since = (time + (DAY_LENGTH - window_start(digit))) % DAY_LENGTH;
+    since < window_length(settings)
 }
 
 // The first window start that is later than the clock.
 fn next_window(digit: u8, clock: u32) -> u64
     ensures { λ r. ⌜ r ≡ nextWindow digit clock ⌝ }
 {
-    let midnight = (clock - clock % DAY) as u64;
+    let midnight = (clock - clock % DAY_LENGTH) as u64;
     let today = midnight + window_start(digit) as u64;
     if (clock as u64) < today {
         today
     } else {
-        today + DAY as u64
+        today + DAY_LENGTH as u64
     }
 }
 
@@ -125,12 +119,14 @@ impl Requests {
         }
     }
 
-    pub fn sound(self) -> bool
-        ensures { λ r. ⌜ r ≡ soundRequests (requestsOf self) ⌝ }
+    // For a plant with these settings.
+    pub fn sound(self, settings: Settings) -> bool
+        ensures { λ r. ⌜ r ≡ soundRequests (keptOf settings) (requestsOf self) ⌝ }
     {
+        let most = retries(settings);
         (self.wanted_flag <= NO_FLAG)
             & (self.held_flag <= NO_FLAG)
-            & (self.failures <= RETRIES)
+            & (self.failures <= most)
             & (self.fixed_at < LATEST)
             & (self.update_at < LATEST)
     }
@@ -171,28 +167,29 @@ impl Requests {
         }
     }
 
-    fn failed_update(self, clock: u32, status: u64) -> Requests
-        ensures { λ r. ⌜ r ≡ requestsFrom (failedUpdate clock status (requestsOf self)) ⌝ }
+    fn failed_update(self, settings: Settings, clock: u32, status: u64) -> Requests
+        ensures { λ r. ⌜ r ≡ requestsFrom (failedUpdate (keptOf settings) clock status (requestsOf self)) ⌝ }
     {
         Requests {
             wanted_flag: self.wanted_flag,
             held_flag: self.held_flag,
             failures: self.failures,
             fixed_at: self.fixed_at,
-            update_at: clock as u64 + update_wait(status),
+            update_at: clock as u64 + wait_after(settings, status) as u64,
         }
     }
 
-    fn failed_fixed(self, digit: u8, clock: u32, status: u64) -> Requests
-        ensures { λ r. ⌜ r ≡ requestsFrom (failedFixed digit clock status (requestsOf self)) ⌝ }
+    fn failed_fixed(self, settings: Settings, digit: u8, clock: u32, status: u64) -> Requests
+        ensures { λ r. ⌜ r ≡ requestsFrom (failedFixed (keptOf settings) digit clock status (requestsOf self)) ⌝ }
     {
         let failures = self.failures;
-        if !is_client_error(status) & (failures < RETRIES) {
+        let most = retries(settings);
+        if !is_client_error(status) & (failures < most) {
             return Requests {
                 wanted_flag: self.wanted_flag,
                 held_flag: self.held_flag,
                 failures: failures + 1,
-                fixed_at: clock as u64 + FIXED_WAIT,
+                fixed_at: clock as u64 + fixed_wait(settings) as u64,
                 update_at: self.update_at,
             };
         }
@@ -205,19 +202,26 @@ impl Requests {
         }
     }
 
-    // After a failure of that kind and status, for a plant with that check digit.
-    pub fn failed(self, kind: Kind, digit: u8, clock: u32, status: u64) -> Requests
-        ensures { λ r. ⌜ r ≡ requestsFrom (failed digit kind clock status (requestsOf self)) ⌝ }
+    // After a failure of that kind and status, for a plant with these settings and that check digit.
+    pub fn failed(
+        self,
+        settings: Settings,
+        kind: Kind,
+        digit: u8,
+        clock: u32,
+        status: u64,
+    ) -> Requests
+        ensures { λ r. ⌜ r ≡ requestsFrom (failed (keptOf settings) digit kind clock status (requestsOf self)) ⌝ }
     {
         match kind {
-            Kind::Update => self.failed_update(clock, status),
-            Kind::Fixed => self.failed_fixed(digit, clock, status),
+            Kind::Update => self.failed_update(settings, clock, status),
+            Kind::Fixed => self.failed_fixed(settings, digit, clock, status),
         }
     }
 
-    // What is due, for a plant with that check digit.
-    pub fn due(self, digit: u8, clock: u32) -> Due
-        ensures { λ r. ⌜ r ≡ dueFor digit clock (requestsOf self) ⌝ }
+    // What is due, for a plant with these settings and that check digit.
+    pub fn due(self, settings: Settings, digit: u8, clock: u32) -> Due
+        ensures { λ r. ⌜ r ≡ dueFor (keptOf settings) digit clock (requestsOf self) ⌝ }
     {
         let now = clock as u64;
         if self.update_at <= now {
@@ -225,7 +229,7 @@ impl Requests {
         }
         let wanted = self.wanted_flag;
         let asked = (wanted != NO_FLAG) & (wanted != self.held_flag) & (self.fixed_at <= now);
-        if asked & ((0 < self.failures) | in_window(digit, clock)) {
+        if asked & ((0 < self.failures) | in_window(settings, digit, clock)) {
             return Due::Fixed(wanted);
         }
         Due::Nothing

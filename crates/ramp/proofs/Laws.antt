@@ -261,25 +261,25 @@ module _ (plant : Plant) (p : Pool) (store : List ℕ) (clock until x : ℕ) whe
   unfolding commandAfter commandOver
   after-no-second h =
       let none : until - clock ≡ 0 = omega arith in
-      rw none (same (leb (plant .minutes) 10 && leb x 60000))
+      rw none (same (leb (plant .settings .minutes) 10 && leb x 60000))
     where
       same : (t : Bool) → cond t x x ≡ x
       same true = refl
       same false = refl
 
-  pub after-long-ramp : 10 < plant .minutes → commandAfter plant p store clock until x ≡ x
+  pub after-long-ramp : 10 < plant .settings .minutes → commandAfter plant p store clock until x ≡ x
   unfolding commandAfter
-  after-long-ramp h = rw (lt-leb (plant .minutes) 10 h) refl
+  after-long-ramp h = rw (lt-leb (plant .settings .minutes) 10 h) refl
 
   pub after-high-command : 60000 < x → commandAfter plant p store clock until x ≡ x
   unfolding commandAfter
-  after-high-command h = rw (lt-leb x 60000 h) (never (leb (plant .minutes) 10))
+  after-high-command h = rw (lt-leb x 60000 h) (never (leb (plant .settings .minutes) 10))
     where
       never : (t : Bool) → cond (t && false) (commandOver (settingsOf plant) p store (until - clock) clock x) x ≡ x
       never true = refl
       never false = refl
 
   -- a sound unit has such values: its command goes second by second
-  pub after-over : plant .minutes ≤ 10 → x ≤ 60000 → commandAfter plant p store clock until x ≡ commandOver (settingsOf plant) p store (until - clock) clock x
+  pub after-over : plant .settings .minutes ≤ 10 → x ≤ 60000 → commandAfter plant p store clock until x ≡ commandOver (settingsOf plant) p store (until - clock) clock x
   unfolding commandAfter
-  after-over m h = rw (le-leb (plant .minutes) 10 m, le-leb x 60000 h) refl
+  after-over m h = rw (le-leb (plant .settings .minutes) 10 m, le-leb x 60000 h) refl

@@ -39,6 +39,6 @@ pub record InReach (minutes from until command : ℕ) : Type 0 where
 -- and any store a target is at most 152,400 parts, and a slot's 1,800 seconds always reach it. Any other command stays
 unfoldable pub commandAfter : Plant → Pool → List ℕ → ℕ → ℕ → ℕ → ℕ
 commandAfter plant pool store clock until command =
-    cond (leb (plant .minutes) 10 && leb command 60000)
+    cond (leb (plant .settings .minutes) 10 && leb command 60000)
     (commandOver (settingsOf plant) pool store (until - clock) clock command)
     command

@@ -57,7 +57,7 @@ fn in_slot(plant: Plant, pool: Pool, store: &[u8], slot: u32, seconds: u32, comm
 
 // The whole slots between two: after one the command stands on its goal, so that only the last of them counts.
 fn between(plant: Plant, pool: Pool, store: &[u8], first: u32, last: u32, command: u64) -> u64
-    requires { ⌜ InReach (plant .minutes) first last command ⌝ }
+    requires { ⌜ InReach (plant .settings .minutes) first last command ⌝ }
     ensures { λ r. ⌜ r ≡ commandOver (settingsOf plant) pool (now (store .entry)) (slotLength * (last - first - 1)) (lastSecond first) command ⌝ }
 {
     let whole = last - 1;
@@ -70,7 +70,7 @@ fn between(plant: Plant, pool: Pool, store: &[u8], first: u32, last: u32, comman
 
 // The rest of the first slot, the whole slots after it, and the seconds of the last one.
 fn over(plant: Plant, pool: Pool, store: &[u8], clock: u32, until: u32, command: u64) -> u64
-    requires { ⌜ InReach (plant .minutes) clock until command ⌝ }
+    requires { ⌜ InReach (plant .settings .minutes) clock until command ⌝ }
     ensures { λ r. ⌜ r ≡ commandOver (settingsOf plant) pool (now (store .entry)) (until - clock) clock command ⌝ }
 {
     let first = calendar::slot_of(clock + 1);
@@ -95,7 +95,7 @@ pub fn command_after(
 ) -> u32
     ensures { λ r. ⌜ r ≡ commandAfter plant pool (now (store .entry)) clock until command ⌝ }
 {
-    let minutes = plant.minutes;
+    let minutes = plant.settings.minutes;
     if until <= clock {
         return command;
     }

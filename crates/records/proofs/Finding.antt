@@ -12,6 +12,7 @@ use lib.Seq.{drop-drop}
 use borrow.Author.Tests.{ltb-true, ltb-false, lt-ltb, le-ltb}
 use Rattle.rules.specs.Digits.{part, allDigits}
 use Rattle.rules.specs.Body.{Record, Body, schedule, registration, countOf, tailDigits, ratesOf, recordAt, counted, parseRegistration, parseBody, isSchedule}
+use Rattle.rules.specs.Table.{need}
 use Rattle.rules.specs.declared.Cause.{Cause}
 use Rattle.rules.specs.declared.Format.{Format}
 use Rattle.rules.specs.declared.Format.the-variants.{F201, F202, F203, F301}
@@ -20,7 +21,7 @@ use Rattle.body.proofs.Parts.{part-to}
 use Rattle.body.proofs.Kept.{records-count}
 use Rattle.body.proofs.Laws.{record-is, rates-within}
 use Rattle.records.specs.Standing.{standing, Stands}
-use Rattle.records.specs.Locating.{placesOf, placesAt, need, parses, locate, from, size, Piece}
+use Rattle.records.specs.Locating.{placesOf, placesAt, parses, locate, from, size, Piece}
 use Rattle.records.specs.Reading.{fieldOf, fieldIn, recordsOf, recordIn}
 use Rattle.records.specs.declared.Places.{Places}
 use Rattle.records.specs.declared.Located.{Located}
@@ -67,12 +68,12 @@ pub found-facts : (f : Format) (body : List ℕ) (i : ℕ) {p : Places} → At p
 unfolding locate
 found-facts f body i {p} e = go (ltb i (countOf f)) refl (isSchedule f) refl e
   where
-    last : (t : Bool) → t ≡ standing f body → i < countOf f → isSchedule f ≡ true → At p ≡ need t Cause.Form (At (placesAt f body i)) → FoundAt f body i p
+    last : (t : Bool) → t ≡ standing f body → i < countOf f → isSchedule f ≡ true → At p ≡ need t (Refused Cause.Form) (At (placesAt f body i)) → FoundAt f body i p
     last true q h s e = record { inside = h; scheduled = s; stands = sym q; places = cc }
     last false q h s e = let z : _≡_ {A = ℕ} 0 1 = cc in absurd (omega arith)
 
     go : (a : Bool) → ltb i (countOf f) ≡ a → (b : Bool) → isSchedule f ≡ b
-        → At p ≡ need a Cause.Range (need b Cause.Name (need (parses (parseBody f body)) Cause.Form (At (placesAt f body i)))) → FoundAt f body i p
+        → At p ≡ need a (Refused Cause.Range) (need b (Refused Cause.Name) (need (parses (parseBody f body)) (Refused Cause.Form) (At (placesAt f body i)))) → FoundAt f body i p
     go true h true s e = last (parses (parseBody f body)) (parses-is f body s) (ltb-true i (countOf f) h) s e
     go true h false s e = let z : _≡_ {A = ℕ} 0 1 = cc in absurd (omega arith)
     go false h b s e = let z : _≡_ {A = ℕ} 0 1 = cc in absurd (omega arith)
@@ -127,12 +128,12 @@ pub record-missing : (f : Format) (body : List ℕ) (i : ℕ) {c : Cause} → Re
 unfolding locate
 record-missing f body i {c} e = go (isSchedule f) refl (ltb i (countOf f)) refl e
   where
-    last : (t : Bool) → t ≡ standing f body → isSchedule f ≡ true → Refused c ≡ need t Cause.Form (At (placesAt f body i)) → recordIn f body i ≡ none
+    last : (t : Bool) → t ≡ standing f body → isSchedule f ≡ true → Refused c ≡ need t (Refused Cause.Form) (At (placesAt f body i)) → recordIn f body i ≡ none
     last true q s e = let z : _≡_ {A = ℕ} 0 1 = cc in absurd (omega arith)
     last false q s e = none-at f body i s (sym q)
 
     go : (b : Bool) → isSchedule f ≡ b → (a : Bool) → ltb i (countOf f) ≡ a
-        → Refused c ≡ need a Cause.Range (need b Cause.Name (need (parses (parseBody f body)) Cause.Form (At (placesAt f body i)))) → recordIn f body i ≡ none
+        → Refused c ≡ need a (Refused Cause.Range) (need b (Refused Cause.Name) (need (parses (parseBody f body)) (Refused Cause.Form) (At (placesAt f body i)))) → recordIn f body i ≡ none
     go false s a h e = none-registered f body i s
     go true s true h e = last (parses (parseBody f body)) (parses-is f body s) s e
     go true s false h e = none-past f body i s (ltb-false i (countOf f) h) (standing f body) refl

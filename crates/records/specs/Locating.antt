@@ -7,6 +7,7 @@ use mathlib.Core.Option.{Option, none, some}
 use lib.Dec.{ltb}
 use lib.ListN.{drop}
 use Rattle.rules.specs.Body.{Body, countOf, ratesOf, isSchedule, parseBody}
+use Rattle.rules.specs.Table.{need}
 use Rattle.rules.specs.declared.Cause.{Cause}
 use Rattle.rules.specs.declared.Format.{Format}
 use Rattle.rules.specs.declared.Format.the-variants.{F201, F202, F203, F301}
@@ -42,10 +43,6 @@ placesOf f at n = record {
 abbrev pub placesAt : Format → List ℕ → ℕ → Places
 placesAt f body i = placesOf f (recordStart f body i) (ratesOf (drop (recordStart f body i) body))
 
-abbrev pub need : Bool → Cause → Located → Located
-need true c o = o
-need false c o = Refused c
-
 abbrev pub parses : Option Body → Bool
 parses none = false
 parses (some b) = true
@@ -53,9 +50,9 @@ parses (some b) = true
 -- 6: no record of the format has this index; 7: a format without records of rates; 9: the body does not parse for the format
 unfoldable pub locate : Format → List ℕ → ℕ → Located
 locate f body i =
-    need (ltb i (countOf f)) Cause.Range
-    (need (isSchedule f) Cause.Name
-    (need (parses (parseBody f body)) Cause.Form
+    need (ltb i (countOf f)) (Refused Cause.Range)
+    (need (isSchedule f) (Refused Cause.Name)
+    (need (parses (parseBody f body)) (Refused Cause.Form)
     (At (placesAt f body i))))
 
 -- the place and the length of a field

@@ -5,7 +5,8 @@ use mathlib.Core.Option.{Option, none, some}
 use lib.ListN.{getElem?}
 use Rattle.rules.specs.Body.{Record, Body, isSchedule, parseBody}
 use Rattle.rules.specs.File.{recordsIn}
-use Rattle.rules.specs.Writer.{Output, refuse, need, fitting}
+use Rattle.rules.specs.Writer.{Output, refuse, fitting}
+use Rattle.rules.specs.Table.{need}
 use Rattle.rules.specs.declared.Cause.{Cause}
 use Rattle.rules.specs.declared.Format.{Format}
 use Rattle.about_files.specs.Writing.{endToEnd}
@@ -41,4 +42,4 @@ ratesFrom room none = refuse Cause.Form
 ratesFrom room (some b) = fitting room (endToEnd (recordsIn b))
 
 unfoldable pub ratesOutput : Format → List ℕ → ℕ → Output
-ratesOutput f body room = need (isSchedule f) Cause.Name (ratesFrom room (parseBody f body))
+ratesOutput f body room = need (isSchedule f) (refuse Cause.Name) (ratesFrom room (parseBody f body))

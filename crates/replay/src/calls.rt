@@ -5,6 +5,7 @@ use crate::shown;
 use crate::stores;
 use crate::stores::most_of;
 use script_fields::Field;
+use plant::GivenSettings;
 use rules::Answer;
 use script::Ask;
 use taking::Call;
@@ -42,12 +43,10 @@ fn install(
     was: Progress,
     id: &[u8],
     mac: &[u8],
-    panel: u64,
-    inverter: u64,
-    minutes: u64,
+    given: GivenSettings,
     out: &mut [u8],
 ) -> Progress {
-    let made = Unit::install(id, mac, panel, inverter, minutes);
+    let made = Unit::install(id, mac, given);
     let answer = made.answer;
     let unit = made.unit;
     let at = answers::put_answer(answer, out, was.at);
@@ -58,14 +57,7 @@ fn install(
     }
 }
 
-fn install_line(
-    was: Progress,
-    line: &[u8],
-    panel: u64,
-    inverter: u64,
-    minutes: u64,
-    out: &mut [u8],
-) -> Progress {
+fn install_line(was: Progress, line: &[u8], given: GivenSettings, out: &mut [u8]) -> Progress {
     let mut id = io::large_buffer();
     let mut mac = io::large_buffer();
     let Field::Length(long) = script_fields::digits_of(script_words::word(line, 1), &mut id) else {
@@ -76,15 +68,7 @@ fn install_line(
     };
     let id_end = most_of(long, &id);
     let mac_end = most_of(wide, &mac);
-    install(
-        was,
-        &id[..id_end],
-        &mac[..mac_end],
-        panel,
-        inverter,
-        minutes,
-        out,
-    )
+    install(was, &id[..id_end], &mac[..mac_end], given, out)
 }
 
 fn take_line(was: Progress, line: &[u8], store: &mut [u8], out: &mut [u8]) -> Progress {
@@ -151,9 +135,7 @@ pub(crate) fn answer(was: Progress, line: &[u8], store: &mut [u8], out: &mut [u8
     match script::ask_of(line) {
         Ask::Nothing => was,
         Ask::Unknown => was.says(b"unknown", out),
-        Ask::Install(panel, inverter, minutes) => {
-            install_line(was, line, panel, inverter, minutes, out)
-        }
+        Ask::Install(given) => install_line(was, line, given, out),
         Ask::Store(length, byte) => stores::lend(was, length, byte, store, out),
         Ask::Byte(index, value) => stores::spoil(was, index, value, store, out),
         Ask::Tick(t) => plain_step(was, Call::Tick(t), store, out),

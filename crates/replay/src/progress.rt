@@ -1,4 +1,5 @@
 // What stays from one line to the next: the unit, the store's length, and how much of the output is written.
+use plant::GivenSettings;
 use unit::Unit;
 
 // The unit, whether one was installed, how many bytes of the store are lent, and the place in the output behind the last answer.
@@ -12,7 +13,12 @@ pub(crate) struct Progress {
 impl Progress {
     // 'before `store` the store is empty'; the unit is one that is not sound, since no values were given.
     pub(crate) fn new() -> Progress {
-        let none = Unit::install(b"", b"", 0, 0, 0);
+        let given = GivenSettings {
+            panel: 0,
+            inverter: 0,
+            minutes: 0,
+        };
+        let none = Unit::install(b"", b"", given);
         let unit = none.unit;
         Progress {
             unit,

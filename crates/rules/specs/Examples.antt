@@ -119,7 +119,7 @@ clock h m s = 3600 * h + 60 * m + s
 -- the fixed time after a failure of X on day 9,000 at 00:05, with k 5
 failedAt : ℕ
 failedAt =
-    failedFixed 5 (9000 * dayLength + clock 0 5 0) 0 (record { wantedFlag = 2; heldFlag = 1; failures = 5; fixedAt = 0; updateAt = 0 }) .fixedAt
+    failedFixed settings 5 (9000 * dayLength + clock 0 5 0) 0 (record { wantedFlag = 2; heldFlag = 1; failures = 5; fixedAt = 0; updateAt = 0 }) .fixedAt
 
 -- a line of the table: 01's example, what is computed, what is stated
 pub record Example : Type 0 where
@@ -146,11 +146,11 @@ table =
     ∷ line 5 (ramp 86 8700 0) 8600
     ∷ line 5 (ramp 87 8700 0) 8700
     ∷ line 6 (windowStart 5) (clock 23 40 0)
-    ∷ line 6 (one (inWindow 5 (clock 23 40 0))) 1
-    ∷ line 6 (one (inWindow 5 (clock 23 59 59))) 1
-    ∷ line 6 (one (inWindow 5 (clock 23 39 59))) 0
-    ∷ line 7 (one (inWindow 6 (clock 0 10 0))) 1
-    ∷ line 7 (one (inWindow 6 (clock 0 30 0))) 0
+    ∷ line 6 (one (inWindow settings 5 (clock 23 40 0))) 1
+    ∷ line 6 (one (inWindow settings 5 (clock 23 59 59))) 1
+    ∷ line 6 (one (inWindow settings 5 (clock 23 39 59))) 0
+    ∷ line 7 (one (inWindow settings 6 (clock 0 10 0))) 1
+    ∷ line 7 (one (inWindow settings 6 (clock 0 30 0))) 0
     ∷ line 8 (readUpdate 336 100) 0
     ∷ line 8 (readUpdate 337 100) 9
     ∷ line 8 (readUpdate 336 101) 11

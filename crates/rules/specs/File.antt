@@ -9,7 +9,8 @@ use Rattle.rules.specs.Digits.{part, allAtMost, value, sameBytes}
 use Rattle.rules.specs.Calendar.{exists, monthIn, dayIn, monthAt, moment, secondsOf, slotOf, startSlot, wholeMinute, slotsOfMonth, slotCount}
 use Rattle.rules.specs.Plant.{plantId}
 use Rattle.rules.specs.Name.{Name, parseName, lawfulName, segmentMonth}
-use Rattle.rules.specs.Body.{highestRate, Record, Body, schedule, registration, parseBody, formOfBody, every, isSchedule}
+use Rattle.rules.specs.Body.{Record, Body, schedule, registration, parseBody, formOfBody, every, isSchedule, highestRate}
+use Rattle.rules.specs.Table.{need}
 use Rattle.rules.specs.declared.Cause.{Cause}
 use Rattle.rules.specs.declared.Format.{Format}
 use Rattle.rules.specs.declared.Format.the-variants.{F201, F202, F203, F301}
@@ -97,16 +98,12 @@ pub data Outcome : Type 0 where
   refuse : Cause → Outcome
   file : File → Outcome
 
-abbrev pub need : Bool → Cause → Outcome → Outcome
-need true c o = o
-need false c o = refuse c
-
 unfoldable pub stages : Name → Body → Outcome
 stages n b =
-    need (datesHold n b) Cause.Date
-    (need (ratesHold b) Cause.Rate
-    (need (checksumsHold b) Cause.Checksum
-    (need (plantsHold n b) Cause.RecordPlant
+    need (datesHold n b) (refuse Cause.Date)
+    (need (ratesHold b) (refuse Cause.Rate)
+    (need (checksumsHold b) (refuse Cause.Checksum)
+    (need (plantsHold n b) (refuse Cause.RecordPlant)
     (file (record { name = n; body = b })))))
 
 abbrev pub withBody : Name → Option Body → Outcome
@@ -115,7 +112,7 @@ withBody n (some b) = stages n b
 
 abbrev pub withName : Option (List ℕ) → List ℕ → Option Name → Outcome
 withName plant body none = refuse Cause.Name
-withName plant body (some n) = need (idFits plant (n .plant)) Cause.OtherPlant (withBody n (parseBody (n .format) body))
+withName plant body (some n) = need (idFits plant (n .plant)) (refuse Cause.OtherPlant) (withBody n (parseBody (n .format) body))
 
 -- a name and body, read for a plant or for none
 unfoldable pub readFile : Option (List ℕ) → List ℕ → List ℕ → Outcome
@@ -127,7 +124,7 @@ isRegistration (some n) = not (isSchedule (n .format))
 
 -- 'a unit takes what reads well, except 301': cause 7, '301 given to be taken'
 unfoldable pub takeFile : List ℕ → List ℕ → List ℕ → Outcome
-takeFile plant name body = need (not (isRegistration (parseName name))) Cause.Name (readFile (some plant) name body)
+takeFile plant name body = need (not (isRegistration (parseName name))) (refuse Cause.Name) (readFile (some plant) name body)
 
 -- ---- the same as a rule about fields: a file whose bytes a reader for that plant, or for none, accepts
 

@@ -7,9 +7,11 @@ pub mod File
 pub mod Store
 pub mod Machine
 pub mod Causes
+pub mod Table
 pub mod Writer
 pub mod ErrorFile
 pub mod Request
+pub mod Rows
 pub mod Lister
 pub mod Reading
 pub mod Examples

@@ -202,15 +202,15 @@ withFile clock f M = record {
 
 -- ---- failure reported
 
--- 'u = clock + 1,800; for 400-499 clock + 86,400', 'f = clock + 300'
-abbrev pub updateWait : ℕ
-updateWait = 1800
+-- 'u = clock + 1,800; for 400-499 clock + 86,400', 'f = clock + 300', whatever the settings
+abbrev pub updateWait : Settings → ℕ
+updateWait s = 1800
 
-abbrev pub refusedWait : ℕ
-refusedWait = 86400
+abbrev pub refusedWait : Settings → ℕ
+refusedWait s = 86400
 
-abbrev pub fixedWait : ℕ
-fixedWait = 300
+abbrev pub fixedWait : Settings → ℕ
+fixedWait s = 300
 
 -- 'status not 0, 100-199 or 300-599' is cause 6
 abbrev pub isStatus : ℕ → Bool
@@ -220,14 +220,15 @@ abbrev pub isClientError : ℕ → Bool
 isClientError x = leb 400 x && leb x 499
 
 -- 'Window for check digit d: 20 minutes from 21:10:00 + 30 × d minutes, past midnight from d = 6'
-abbrev pub windowLength : ℕ
-windowLength = 1200
+abbrev pub windowLength : Settings → ℕ
+windowLength s = 1200
 
 unfoldable pub windowStart : ℕ → ℕ
 windowStart d = timeOfDay (21 * 3600 + 10 * 60 + 1800 * d)
 
-unfoldable pub inWindow : ℕ → ℕ → Bool
-inWindow d t = leb (windowStart d) (timeOfDay t) && ltb (timeOfDay t) (windowStart d + windowLength)
+-- the time of day less the window's start, modulo a day: a window that passes midnight goes on into the next day
+unfoldable pub inWindow : Settings → ℕ → ℕ → Bool
+inWindow s d t = ltb (timeOfDay (timeOfDay t + (dayLength - windowStart d))) (windowLength s)
 
 -- 'the first window start later than clock': today's where it is still to come, else tomorrow's
 unfoldable pub nextWindow : ℕ → ℕ → ℕ
@@ -235,25 +236,25 @@ nextWindow d t =
     let today = t - timeOfDay t + windowStart d in
     cond (ltb t today) today (today + dayLength)
 
-unfoldable pub failedUpdate : ℕ → ℕ → Requests → Requests
-failedUpdate t status q = record {
+unfoldable pub failedUpdate : Settings → ℕ → ℕ → Requests → Requests
+failedUpdate s t status q = record {
   wantedFlag = q .wantedFlag;
   heldFlag = q .heldFlag;
   failures = q .failures;
   fixedAt = q .fixedAt;
-  updateAt = t + cond (isClientError status) refusedWait updateWait;
+  updateAt = t + cond (isClientError status) (refusedWait s) (updateWait s);
 }
 
 -- 'if status isn't 400-499 and k < 5, k rises by 1 and f = clock + 300; else k = 0 and f is the first window start later than clock'
-unfoldable pub failedFixed : ℕ → ℕ → ℕ → Requests → Requests
-failedFixed d t status q =
-    cond (not (isClientError status) && ltb (q .failures) retries)
-    (record { wantedFlag = q .wantedFlag; heldFlag = q .heldFlag; failures = q .failures + 1; fixedAt = t + fixedWait; updateAt = q .updateAt })
+unfoldable pub failedFixed : Settings → ℕ → ℕ → ℕ → Requests → Requests
+failedFixed s d t status q =
+    cond (not (isClientError status) && ltb (q .failures) (retries s))
+    (record { wantedFlag = q .wantedFlag; heldFlag = q .heldFlag; failures = q .failures + 1; fixedAt = t + fixedWait s; updateAt = q .updateAt })
     (record { wantedFlag = q .wantedFlag; heldFlag = q .heldFlag; failures = 0; fixedAt = nextWindow d t; updateAt = q .updateAt })
 
-abbrev pub failed : ℕ → Kind → ℕ → ℕ → Requests → Requests
-failed d Kind.Update t status q = failedUpdate t status q
-failed d Kind.Fixed t status q = failedFixed d t status q
+abbrev pub failed : Settings → ℕ → Kind → ℕ → ℕ → Requests → Requests
+failed s d Kind.Update t status q = failedUpdate s t status q
+failed s d Kind.Fixed t status q = failedFixed s d t status q
 
 unfoldable pub withRequests : Requests → Machine → Machine
 withRequests q M = record { clock = M .clock; floor = M .floor; files = M .files; requests = q; command = M .command }
@@ -261,15 +262,15 @@ withRequests q M = record { clock = M .clock; floor = M .floor; files = M .files
 -- ---- the questions
 
 -- 'update if clock ≥ u; else fixed with w if w isn't none, w ≠ h, clock ≥ f, and k > 0 or the time of day is in the window; else nothing'
-unfoldable pub dueOf : ℕ → ℕ → Requests → Reply
-dueOf d t q =
+unfoldable pub dueOf : Settings → ℕ → ℕ → Requests → Reply
+dueOf s d t q =
     cond (leb (q .updateAt) t)
     update
     (cond
     (not (eqb (q .wantedFlag) noFlag)
     && not (eqb (q .wantedFlag) (q .heldFlag))
     && leb (q .fixedAt) t
-    && (ltb 0 (q .failures) || inWindow d t))
+    && (ltb 0 (q .failures) || inWindow s d t))
     (fixed (q .wantedFlag))
     nothing)
 
@@ -312,9 +313,9 @@ step w clockLost M = (accepted, lostClock M)
 step w (fileTaken name body) M = checkStore w (atClock (M .clock) (λ t. takeOutcome t (takeFile (w .plant) name body) M) M) M
 step w (failure kind status) M =
     atClock (M .clock)
-    (λ t. check (isStatus status) Cause.Range (accepted, withRequests (failed (lastDigit (w .plant)) kind t status (M .requests)) M) M)
+    (λ t. check (isStatus status) Cause.Range (accepted, withRequests (failed (w .settings) (lastDigit (w .plant)) kind t status (M .requests)) M) M)
     M
-step w due M = atClock (M .clock) (λ t. (dueOf (lastDigit (w .plant)) t (M .requests), M)) M
+step w due M = atClock (M .clock) (λ t. (dueOf (w .settings) (lastDigit (w .plant)) t (M .requests), M)) M
 step w (ceilingOf s) M =
     checkStore w
     (atClock (M .clock) (λ t. check (ltb s slotCount) Cause.Range (ceilingReply (w .settings) (rateOf M s), M) M) M)

@@ -4,7 +4,8 @@ use mathlib.Core.List.{List, [], _∷_, _++_}
 use Rattle.rules.specs.Digits.{toAscii}
 use Rattle.rules.specs.Plant.{plantId, macAddress}
 use Rattle.rules.specs.Name.{anySegment}
-use Rattle.rules.specs.Writer.{Output, need, fitting}
+use Rattle.rules.specs.Table.{need}
+use Rattle.rules.specs.Writer.{Output, refuse, fitting}
 use Rattle.rules.specs.declared.Cause.{Cause}
 
 -- 'power_plant_id=', '&mac_address=' and '&schedule_kbn='
@@ -25,7 +26,7 @@ requestBytes id mac segment =
 -- into so much room; a segment that no name may have is cause 7
 unfoldable pub request : List ℕ → List ℕ → List ℕ → ℕ → Output
 request id mac segment room =
-    need (plantId id) Cause.PlantId
-    (need (macAddress mac) Cause.Setting
-    (need (anySegment segment) Cause.Name
+    need (plantId id) (refuse Cause.PlantId)
+    (need (macAddress mac) (refuse Cause.Setting)
+    (need (anySegment segment) (refuse Cause.Name)
     (fitting room (requestBytes id mac segment))))

@@ -80,8 +80,8 @@ abbrev pub noFlag : ℕ
 noFlag = 10
 
 -- 'failures 0 to 5'
-abbrev pub retries : ℕ
-retries = 5
+abbrev pub retries : Settings → ℕ
+retries s = 5
 
 pub record Values : Type 0 where
   pub plant : List ℕ
@@ -105,14 +105,18 @@ soundBlocks free bs =
     && all (λ b. ltb b blockCount) bs
     && allBelow blockCount (λ b. Bool·beq (free b) (not (member b bs)))
 
+-- two days: no wait is longer
+abbrev pub longestWait : ℕ
+longestWait = 172800
+
 -- 'flags 0 to 10 (10 is none), failures 0 to 5, f and u below T + 172,800'
-unfoldable pub soundRequests : Requests → Bool
-soundRequests q =
+unfoldable pub soundRequests : Settings → Requests → Bool
+soundRequests s q =
     leb (q .wantedFlag) noFlag
     && leb (q .heldFlag) noFlag
-    && leb (q .failures) retries
-    && ltb (q .fixedAt) (endOfTime + 172800)
-    && ltb (q .updateAt) (endOfTime + 172800)
+    && leb (q .failures) (retries s)
+    && ltb (q .fixedAt) (endOfTime + longestWait)
+    && ltb (q .updateAt) (endOfTime + longestWait)
 
 -- 'clock unset or below T'
 abbrev pub soundClock : Option ℕ → Bool
@@ -128,7 +132,7 @@ soundUnit v =
     && ltb (v .floor) monthCount
     && soundMonths (v .floor) (map (λ h. h .month) (v .held))
     && soundBlocks (v .free) (map (λ h. h .block) (v .held))
-    && soundRequests (v .requests)
+    && soundRequests (v .settings) (v .requests)
     && soundClock (v .clock)
     && leb (v .command) (fullCommand (v .settings))
 

@@ -11,6 +11,7 @@ use Rattle.rules.specs.Plant.{plantId}
 use Rattle.rules.specs.Name.{formatOf}
 use Rattle.rules.specs.Body.{highestRate, Record, schedule, countOf, mostRates, isSchedule, encodeBody}
 use Rattle.rules.specs.File.{monthBegins, updateDates, checksumOf}
+use Rattle.rules.specs.Table.{need}
 use Rattle.rules.specs.declared.Cause.{Cause}
 use Rattle.rules.specs.declared.Format.{Format}
 use Rattle.rules.specs.declared.Written.{Written}
@@ -21,13 +22,9 @@ pub data Output : Type 0 where
   refuse : Cause → Output
   bytes : List ℕ → Output
 
-abbrev pub need : Bool → Cause → Output → Output
-need true c o = o
-need false c o = refuse c
-
 -- cause 15: 'output longer than the lent buffer'
 abbrev pub fitting : ℕ → List ℕ → Output
-fitting room b = need (leb (length b) room) Cause.Buffer (bytes b)
+fitting room b = need (leb (length b) room) (refuse Cause.Buffer) (bytes b)
 
 -- the answer to the caller
 abbrev pub writtenOf : Output → Written
@@ -123,14 +120,14 @@ datesFit F301 w = false
 abbrev pub writeAs : ℕ → Fields → Option Format → Output
 writeAs room w none = refuse Cause.Name
 writeAs room w (some f) =
-    need (isSchedule f) Cause.Name
-    (need (digitsFit f w) Cause.Form
-    (need (datesFit f w) Cause.Date
-    (need (allAtMost highestRate (w .rates)) Cause.Rate
+    need (isSchedule f) (refuse Cause.Name)
+    (need (digitsFit f w) (refuse Cause.Form)
+    (need (datesFit f w) (refuse Cause.Date)
+    (need (allAtMost highestRate (w .rates)) (refuse Cause.Rate)
     (fitting room (encodeBody (schedule (fieldRecords f w)))))))
 
 unfoldable pub writeBody : Fields → ℕ → Output
 writeBody w room =
-    need (plantId (w .plant)) Cause.PlantId
-    (need (flagFits w) Cause.Range
+    need (plantId (w .plant)) (refuse Cause.PlantId)
+    (need (flagFits w) (refuse Cause.Range)
     (writeAs room w (formatOf (w .format))))

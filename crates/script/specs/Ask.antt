@@ -95,7 +95,7 @@ failureAsk kind status =
     (cond (sameBytes kind fixedWord) (statusAsk Kind.Fixed status) Ask.Unknown)
 
 abbrev pub installAsk : Number → Number → Number → Ask
-installAsk (Number.Value panel) (Number.Value inverter) (Number.Value minutes) = Ask.Install panel inverter minutes
+installAsk (Number.Value panel) (Number.Value inverter) (Number.Value minutes) = Ask.Install (record { panel = panel; inverter = inverter; minutes = minutes })
 installAsk (Number.Value panel) (Number.Value inverter) Number.Broken = Ask.Unknown
 installAsk (Number.Value panel) Number.Broken minutes = Ask.Unknown
 installAsk Number.Broken inverter minutes = Ask.Unknown

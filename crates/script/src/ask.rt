@@ -1,6 +1,7 @@
 // What a line asks for, by its first word and the number of its words.
 ghost use mathlib.Core.Path.{_≡_};
 ghost use Rattle.script.specs.Ask.{tickAsk, ceilingAsk, blockAsk, storeAsk, byteAsk, statusAsk, failureAsk, installAsk, askOne, askTwo, askThree, askSix, isSilent, askOf};
+use plant::GivenSettings;
 use rules::Kind;
 use script_words::Number;
 use script_words::number_of;
@@ -12,7 +13,7 @@ use script_words::word_count;
 pub enum Ask {
     Nothing,
     Unknown,
-    Install(u64, u64, u64),
+    Install(GivenSettings),
     Store(usize, u8),
     Byte(u64, u8),
     Tick(u64),
@@ -128,7 +129,11 @@ fn install_ask(panel: Number, inverter: Number, minutes: Number) -> Ask
     let Number::Value(minutes) = minutes else {
         return Ask::Unknown;
     };
-    Ask::Install(panel, inverter, minutes)
+    Ask::Install(GivenSettings {
+        panel,
+        inverter,
+        minutes,
+    })
 }
 
 // A line of one word.

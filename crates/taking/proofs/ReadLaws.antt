@@ -12,10 +12,11 @@ use Rattle.rules.specs.Digits.{part, allDigits, digits, value}
 use Rattle.rules.specs.Calendar.{exists}
 use Rattle.rules.specs.Name.{Name, parseName, lawfulName, segmentFits, segmentDigit}
 use Rattle.rules.specs.Body.{Record, Body, schedule, registration, countOf, parseRest, parseBody, counted, isSchedule}
-use Rattle.rules.specs.File.{File, Outcome, refuse, file, need, idFits, datesHold, ratesHold, checksumsHold, plantsHold, stages, withBody, withName, readFile, isRegistration, takeFile, recordsIn, flagOf}
+use Rattle.rules.specs.File.{File, Outcome, refuse, file, idFits, datesHold, ratesHold, checksumsHold, plantsHold, stages, withBody, withName, readFile, isRegistration, takeFile, recordsIn, flagOf}
 use Rattle.rules.specs.Lister.{totalRates, rateCount, recordCount}
 use Rattle.rules.specs.Machine.{takeBy, takeYear, takeUpdate}
 use Rattle.rules.specs.Store.{Requests as RequestValues}
+use Rattle.rules.specs.Table.{need}
 use Rattle.rules.specs.declared.Cause.{Cause}
 use Rattle.rules.specs.declared.Format.{Format}
 use Rattle.rules.specs.declared.Format.the-variants.{F201, F202, F203, F301}
@@ -56,7 +57,7 @@ record Parsed (body : List ℕ) (f : File) : Type 0 where
   kind : isSchedule (f .name .format) ≡ true
   bytes : parseBody (f .name .format) body ≡ some (f .body)
 
-need-file : (t : Bool) (c : Cause) (o : Outcome) (f : File) → need t c o ≡ file f → (t ≡ true) × (o ≡ file f)
+need-file : (t : Bool) (c : Cause) (o : Outcome) (f : File) → need t (refuse c) o ≡ file f → (t ≡ true) × (o ≡ file f)
 need-file true c o f e = (refl, e)
 need-file false c o f e = let z : _≡_ {A = ℕ} 0 1 = cc in absurd (omega arith)
 
@@ -79,7 +80,7 @@ parsed plant name body f e = go (parseName name) e
         let same : F ≡ f = cc in
         subst (λ (g : File). Parsed body g) same (record { kind = s; bytes = p })
 
-    go : (o : Option Name) → need (not (isRegistration o)) Cause.Name (withName (some plant) body o) ≡ file f → Parsed body f
+    go : (o : Option Name) → need (not (isRegistration o)) (refuse Cause.Name) (withName (some plant) body o) ≡ file f → Parsed body f
     go none q = let z : _≡_ {A = ℕ} 0 1 = cc in absurd (omega arith)
     go (some n) q =
         let s = need-file (not (isRegistration (some n))) Cause.Name (withName (some plant) body (some n)) f q in

@@ -13,6 +13,7 @@ use Rattle.rules.specs.Store.{storeLength}
 use Rattle.rules.specs.declared.Cause.{Cause}
 use Rattle.body.specs.Walk.{recordsFrom}
 use Rattle.rules.specs.Reading.{summaryOf, readingOf}
+use Rattle.rules.specs.Table.{firstOf}
 use Rattle.rules.specs.declared.Summary.{Summary}
 use Rattle.rules.specs.declared.Reading.the-variants.{Read, Refused}
 use Rattle.pool.specs.Blocks.{freeCount}
@@ -23,7 +24,7 @@ use Rattle.about_store.specs.Run.{runStart, runLength, putRecords}
 use Rattle.polling.specs.Requests.{requestsOf, requestsFrom}
 use Rattle.polling.specs.declared.Requests.{Requests}
 use Rattle.unit.specs.Values.{isSound}
-use Rattle.unit.specs.Rows.{firstOf, isUnset}
+use Rattle.unit.specs.Rows.{isUnset}
 use Rattle.unit.specs.Calls.{refusal, clockTime}
 use Rattle.taking.specs.Taken.{fullRow, withFile, takeOf, storeAfterTake}
 use Rattle.taking.specs.Taking.{Following, takeSummary, filed}

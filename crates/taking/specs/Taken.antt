@@ -6,12 +6,13 @@ use mathlib.Core.Option.{Option, none, some}
 use lib.Dec.{ltb}
 use Rattle.rules.specs.File.{File, Outcome, refuse, file, takeFile, recordsIn}
 use Rattle.rules.specs.Machine.{takeBy}
+use Rattle.rules.specs.Table.{Row, row, firstOf}
 use Rattle.rules.specs.declared.Cause.{Cause}
 use Rattle.pool.specs.Blocks.{freeCount}
 use Rattle.schedule.specs.Stored.{missing}
 use Rattle.about_store.specs.Run.{runStart, runLength, putRecords}
 use Rattle.polling.specs.Requests.{requestsOf, requestsFrom}
-use Rattle.unit.specs.Rows.{Row, firstOf, lengthRow, soundRow, clockRow}
+use Rattle.unit.specs.Rows.{lengthRow, soundRow, clockRow}
 use Rattle.unit.specs.Calls.{doneBy, clockTime}
 use Rattle.unit.specs.declared.Unit.{Unit}
 use Rattle.unit.specs.declared.Done.{Done}
@@ -20,11 +21,11 @@ use Rattle.unit.specs.declared.Done.{Done}
 unfoldable pub fullRow : File → Unit → Row
 fullRow f u =
     let rs = recordsIn (f .body) in
-    record { applies = ltb (freeCount (u .pool)) (missing (u .pool) (u .floor) (runStart rs) (runLength rs)); cause = Cause.Full }
+    row Cause.Full (ltb (freeCount (u .pool)) (missing (u .pool) (u .floor) (runStart rs) (runLength rs)))
 
 -- 7 to 13 by reading, then 14
 abbrev pub outcomeRow : Outcome → Unit → Row
-outcomeRow (refuse c) u = record { applies = true; cause = c }
+outcomeRow (refuse c) u = row c true
 outcomeRow (file f) u = fullRow f u
 
 unfoldable pub withFile : File → List ℕ → Unit → Unit

@@ -8,13 +8,14 @@ use Rattle.rules.specs.Calendar.{monthCount}
 use Rattle.rules.specs.Plant.{lastDigit}
 use Rattle.rules.specs.Store.{soundUnit, soundMonths, soundBlocks, soundRequests, soundClock, freshRequests}
 use Rattle.rules.specs.Machine.{failed, isStatus}
+use Rattle.rules.specs.Table.{firstOf}
 use Rattle.rules.specs.declared.Answer.{Answer}
 use Rattle.rules.specs.declared.Cause.{Cause}
 use Rattle.rules.specs.declared.Command.{Command}
 use Rattle.rules.specs.declared.Due.{Due}
 use Rattle.rules.specs.declared.FreeBlocks.{FreeBlocks}
 use Rattle.rules.specs.declared.Kind.{Kind}
-use Rattle.plant.specs.Plant.{validPlant}
+use Rattle.plant.specs.Plant.{settingsOf, validPlant}
 use Rattle.plant.specs.declared.Plant.{Plant}
 use Rattle.pool.specs.Blocks.{freeCount, isFree}
 use Rattle.pool.specs.Held.{heldOf, soundPool}
@@ -22,7 +23,6 @@ use Rattle.polling.specs.Requests.{requestsOf, requestsFrom}
 use Rattle.polling.specs.Due.{dueFor}
 use Rattle.polling.specs.declared.Requests.{Requests}
 use Rattle.unit.specs.Values.{clockOf, valuesOf, isSound, freshPool, freshUnit}
-use Rattle.unit.specs.Rows.{firstOf}
 use Rattle.unit.specs.Calls.{refusal, lost, lostOf, withFailure, failureOf, dueOf, commandOf, freeOf}
 use Rattle.unit.specs.declared.Unit.{Unit}
 use Rattle.unit.specs.declared.Clock.the-variants.{Unset, At}
@@ -33,14 +33,14 @@ pub sound-is : (u : Unit)
     ≡ (validPlant (u .plant)
     && ltb (u .floor) monthCount
     && soundPool (u .pool) (u .floor)
-    && soundRequests (requestsOf (u .requests))
+    && soundRequests (settingsOf (u .plant)) (requestsOf (u .requests))
     && soundClock (clockOf (u .clock))
-    && leb (u .command) (6000 * u .plant .minutes))
+    && leb (u .command) (6000 * u .plant .settings .minutes))
 unfolding isSound valuesOf soundUnit validPlant soundPool
 sound-is u =
     let months = soundMonths (u .floor) (map (λ h. h .month) (heldOf (u .pool))) in
     let blocks = soundBlocks (isFree (u .pool)) (map (λ h. h .block) (heldOf (u .pool))) in
-    ap (λ (b : Bool). b && soundRequests (requestsOf (u .requests)) && soundClock (clockOf (u .clock)) && leb (u .command) (6000 * u .plant .minutes))
+    ap (λ (b : Bool). b && soundRequests (settingsOf (u .plant)) (requestsOf (u .requests)) && soundClock (clockOf (u .clock)) && leb (u .command) (6000 * u .plant .settings .minutes))
     (and-assoc (validPlant (u .plant) && ltb (u .floor) monthCount) months blocks)
 
 -- the fresh unit, with requests that are the fresh ones
@@ -98,7 +98,7 @@ module _ (u : Unit) where
       failure-status kind status e = rw (good, set, e)
 
       pub failure-done : (kind : Kind) (status : ℕ) → isStatus status ≡ true → (d : ℕ) → d ≡ lastDigit (u .plant .id) → (q : Requests)
-          → q ≡ requestsFrom (failed d kind t status (requestsOf (u .requests)))
+          → q ≡ requestsFrom (failed (settingsOf (u .plant)) d kind t status (requestsOf (u .requests)))
           → failureOf u kind status
           ≡ record {
             unit = record { plant = u .plant; pool = u .pool; requests = q; clock = At t; floor = u .floor; command = u .command };
@@ -107,6 +107,6 @@ module _ (u : Unit) where
       unfolding failureOf firstOf withFailure
       failure-done kind status e d h q k = rw (good, set, e, ← h, k)
 
-      pub due-done : (d : ℕ) → d ≡ lastDigit (u .plant .id) → dueOf u ≡ dueFor d t (requestsOf (u .requests))
+      pub due-done : (d : ℕ) → d ≡ lastDigit (u .plant .id) → dueOf u ≡ dueFor (settingsOf (u .plant)) d t (requestsOf (u .requests))
       unfolding dueOf firstOf
       due-done d h = rw (good, set, ← h)

@@ -9,6 +9,7 @@ use borrow.Author.Tests.{eq-eqb, ne-eqb, lt-ltb, le-ltb}
 use Rattle.rules.specs.Calendar.{slotCount}
 use Rattle.rules.specs.Plant.{Settings, percent}
 use Rattle.rules.specs.Store.{storeLength}
+use Rattle.rules.specs.Table.{firstOf}
 use Rattle.rules.specs.declared.Cause.{Cause}
 use Rattle.rules.specs.declared.Ceiling.{Ceiling}
 use Rattle.plant.specs.Plant.{settingsOf}
@@ -16,7 +17,6 @@ use Rattle.schedule.specs.Stored.{storeHolds, storedRate}
 use Rattle.schedule.specs.Rates.{rateOption}
 use Rattle.schedule.specs.declared.rates.StoredRate.the-variants.{Rate, NoRate}
 use Rattle.unit.specs.Values.{isSound}
-use Rattle.unit.specs.Rows.{firstOf}
 use Rattle.unit.specs.Calls.{ceilingAnswer, ceilingOf}
 use Rattle.unit.specs.declared.Unit.{Unit}
 use Rattle.unit.specs.declared.Clock.the-variants.{Unset, At}

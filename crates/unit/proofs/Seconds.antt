@@ -89,11 +89,11 @@ module _ (u : Unit) (good : isSound u ≡ true) where
   pub pool-sound : Sound (u .pool) (u .floor)
   pool-sound = pool-facts (u .pool) (u .floor) (parts .pool)
 
-  pub few : u .plant .minutes ≤ 10
+  pub few : u .plant .settings .minutes ≤ 10
   few = valid-facts (u .plant) (parts .plant) .settings .minutes-most
 
   pub low : u .command ≤ 60000
-  low = let h = leb-true (u .command) (6000 * u .plant .minutes) (parts .command) in omega (arith, few)
+  low = let h = leb-true (u .command) (6000 * u .plant .settings .minutes) (parts .command) in omega (arith, few)
 
   -- the seconds up to t at once: the clock at t, floor and pool of t, and the command by the pool and the store before them
   pub seconds-once : (store : List ℕ) (c t : ℕ) → c < t
@@ -125,13 +125,13 @@ module _ (u : Unit) (store : List ℕ) (good : SoundWith u store) where
               (released-sound (u .pool) (raisedFloor (u .floor) t) (u .floor) (pool-facts (u .pool) (u .floor) (s .pool)));
           requests = s .requests;
           clock = lt-ltb t endOfTime l;
-          command = le-leb x (6000 * u .plant .minutes) h;
+          command = le-leb x (6000 * u .plant .settings .minutes) h;
         });
         lent = store-released (u .pool) (raisedFloor (u .floor) t) store (good .lent);
       }
 
   full : u .command ≤ fullCommand (settingsOf (u .plant))
-  full = leb-true (u .command) (6000 * u .plant .minutes) (sound-parts u (good .unit) .command)
+  full = leb-true (u .command) (6000 * u .plant .settings .minutes) (sound-parts u (good .unit) .command)
 
   pub clock-sound : (t : ℕ) → t < endOfTime → SoundWith (setClock t u) store
   unfolding setClock withCommand

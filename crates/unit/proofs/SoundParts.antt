@@ -6,7 +6,7 @@ use mathlib.Core.List.{List}
 use lib.Dec.{leb, ltb}
 use Rattle.rules.specs.Calendar.{monthCount}
 use Rattle.rules.specs.Store.{soundRequests, soundClock, soundStore}
-use Rattle.plant.specs.Plant.{validPlant}
+use Rattle.plant.specs.Plant.{settingsOf, validPlant}
 use Rattle.pool.specs.Held.{heldOf, soundPool}
 use Rattle.pool.proofs.BelowLaws.{and-true}
 use Rattle.polling.specs.Requests.{requestsOf}
@@ -18,18 +18,18 @@ pub record SoundParts (u : Unit) : Type 0 where
   pub plant : validPlant (u .plant) ≡ true
   pub floor : ltb (u .floor) monthCount ≡ true
   pub pool : soundPool (u .pool) (u .floor) ≡ true
-  pub requests : soundRequests (requestsOf (u .requests)) ≡ true
+  pub requests : soundRequests (settingsOf (u .plant)) (requestsOf (u .requests)) ≡ true
   pub clock : soundClock (clockOf (u .clock)) ≡ true
-  pub command : leb (u .command) (6000 * u .plant .minutes) ≡ true
+  pub command : leb (u .command) (6000 * u .plant .settings .minutes) ≡ true
 
 pub sound-parts : (u : Unit) → isSound u ≡ true → SoundParts u
 sound-parts u e =
     let v = validPlant (u .plant) in
     let f = ltb (u .floor) monthCount in
     let p = soundPool (u .pool) (u .floor) in
-    let q = soundRequests (requestsOf (u .requests)) in
+    let q = soundRequests (settingsOf (u .plant)) (requestsOf (u .requests)) in
     let k = soundClock (clockOf (u .clock)) in
-    let a = and-true (v && f && p && q && k) (leb (u .command) (6000 * u .plant .minutes)) (sym (sound-is u) ∙ e) in
+    let a = and-true (v && f && p && q && k) (leb (u .command) (6000 * u .plant .settings .minutes)) (sym (sound-is u) ∙ e) in
     let b = and-true (v && f && p && q) k (a .0) in
     let d = and-true (v && f && p) q (b .0) in
     let g = and-true (v && f) p (d .0) in

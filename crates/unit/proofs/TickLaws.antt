@@ -11,6 +11,7 @@ use lib.ListN.{length}
 use borrow.Author.Tests.{lt-ltb, le-ltb, eq-eqb, ne-eqb, ltb-true, leb-true, leb-false, eqb-true}
 use Rattle.rules.specs.Calendar.{endOfTime}
 use Rattle.rules.specs.Store.{storeLength, soundStore}
+use Rattle.rules.specs.Table.{firstOf}
 use Rattle.rules.specs.declared.Answer.{Answer}
 use Rattle.rules.specs.declared.Cause.{Cause}
 use Rattle.pool.specs.Held.{heldOf}
@@ -18,7 +19,6 @@ use Rattle.pool.proofs.BelowLaws.{and-true}
 use Rattle.schedule.specs.Stored.{storeHolds}
 use Rattle.ramp.proofs.Laws.{after-no-second, after-over}
 use Rattle.unit.specs.Values.{isSound}
-use Rattle.unit.specs.Rows.{firstOf}
 use Rattle.unit.specs.Calls.{doneBy, refusal, setClock, withCommand, seconds, tickFrom, ticked, tickOf}
 use Rattle.unit.specs.Ticks.{commandAt}
 use Rattle.unit.specs.declared.Unit.{Unit}

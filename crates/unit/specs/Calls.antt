@@ -8,6 +8,7 @@ use Rattle.rules.specs.Calendar.{slotOf}
 use Rattle.rules.specs.Plant.{Settings, lastDigit, percent}
 
 use Rattle.rules.specs.Machine.{raisedFloor, approach, target, failed}
+use Rattle.rules.specs.Table.{firstOf}
 use Rattle.rules.specs.declared.Cause.{Cause}
 use Rattle.rules.specs.declared.Answer.{Answer}
 use Rattle.rules.specs.declared.Ceiling.{Ceiling}
@@ -22,7 +23,7 @@ use Rattle.schedule.specs.Stored.{storedRate}
 use Rattle.polling.specs.Requests.{requestsOf, requestsFrom}
 use Rattle.polling.specs.Due.{dueFor}
 
-use Rattle.unit.specs.Rows.{firstOf, lengthRow, unitRow, soundRow, clockRow, tickRow, slotRow, statusRow}
+use Rattle.unit.specs.Rows.{lengthRow, unitRow, soundRow, clockRow, tickRow, slotRow, statusRow}
 use Rattle.unit.specs.declared.Unit.{Unit}
 use Rattle.unit.specs.declared.Done.{Done}
 use Rattle.unit.specs.declared.Clock.{Clock}
@@ -98,7 +99,7 @@ unfoldable pub withFailure : Kind → ℕ → Unit → Unit
 withFailure kind status u = record {
   plant = u .plant;
   pool = u .pool;
-  requests = requestsFrom (failed (lastDigit (u .plant .id)) kind (clockTime (u .clock)) status (requestsOf (u .requests)));
+  requests = requestsFrom (failed (settingsOf (u .plant)) (lastDigit (u .plant .id)) kind (clockTime (u .clock)) status (requestsOf (u .requests)));
   clock = u .clock;
   floor = u .floor;
   command = u .command;
@@ -117,7 +118,7 @@ dueBy (some c) a = Due.Refused c
 unfoldable pub dueOf : Unit → Due
 dueOf u =
     dueBy (firstOf (unitRow u ∷ clockRow u ∷ []))
-    (dueFor (lastDigit (u .plant .id)) (clockTime (u .clock)) (requestsOf (u .requests)))
+    (dueFor (settingsOf (u .plant)) (lastDigit (u .plant .id)) (clockTime (u .clock)) (requestsOf (u .requests)))
 
 abbrev pub ceilingAnswer : Settings → Option ℕ → Ceiling
 ceilingAnswer s none = Ceiling.NoRate

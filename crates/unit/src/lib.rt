@@ -1,7 +1,7 @@
 // The schedule unit (01, The store, The plain machine): its values, and its calls.
 ghost use mathlib.Core.Path.{_≡_};
 ghost use Rattle.rules.specs.Store.{soundClock};
-ghost use Rattle.plant.specs.Plant.{settings};
+ghost use Rattle.plant.specs.Plant.{givenOf};
 ghost use Rattle.unit.specs.Values.{clockOf, isSound, freshUnit, installedUnit};
 ghost use Rattle.unit.specs.Calls.{refusal, lostOf, failureOf, dueOf, commandOf, freeOf};
 ghost use Rattle.unit.specs.Asked.{dueAsked, commandAsked, freeAsked};
@@ -10,6 +10,7 @@ mod ceiling;
 mod requesting;
 mod tick;
 
+use plant::GivenSettings;
 use plant::Plant;
 use pool::ALL_FREE;
 use pool::Pool;
@@ -120,10 +121,10 @@ impl Unit {
     pub const STORE_LENGTH: usize = rules::STORE_LENGTH;
 
     // The fresh unit of these values, or cause 1 or 2.
-    pub fn install(id: &[u8], mac: &[u8], panel: u64, inverter: u64, minutes: u64) -> Installed
-        ensures { λ r. ⌜ r ≡ installedUnit (now (id .entry)) (now (mac .entry)) (settings panel inverter minutes) ⌝ }
+    pub fn install(id: &[u8], mac: &[u8], given: GivenSettings) -> Installed
+        ensures { λ r. ⌜ r ≡ installedUnit (now (id .entry)) (now (mac .entry)) (givenOf given) ⌝ }
     {
-        let made = Plant::install(id, mac, panel, inverter, minutes);
+        let made = Plant::install(id, mac, given);
         let answer = made.answer;
         let plant = made.plant;
         Installed {
@@ -143,9 +144,9 @@ impl Unit {
         plant.valid()
             & (self.floor < MONTH_COUNT)
             & pool.sound(self.floor)
-            & requests.sound()
+            & requests.sound(plant.settings)
             & clock.sound()
-            & (self.command as u64 <= FULL_COMMAND * plant.minutes as u64)
+            & (self.command as u64 <= FULL_COMMAND * plant.settings.minutes as u64)
     }
 
     // The unit with a cause, as it was.
@@ -198,7 +199,7 @@ impl Unit {
         let plant = self.plant;
         let pool = self.pool;
         let old = self.requests;
-        let requests = old.failed(kind, plant.check_digit(), t, status);
+        let requests = old.failed(plant.settings, kind, plant.check_digit(), t, status);
         Done {
             unit: Unit {
                 plant,
@@ -224,7 +225,7 @@ impl Unit {
         };
         let plant = self.plant;
         let requests = self.requests;
-        requests.due(plant.check_digit(), t)
+        requests.due(plant.settings, plant.check_digit(), t)
     }
 
     // What is due.

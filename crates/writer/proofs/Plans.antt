@@ -15,14 +15,15 @@ use Rattle.rules.specs.Plant.{plantId}
 use Rattle.rules.specs.Name.{formatOf}
 use Rattle.rules.specs.Body.{schedule, encodeBody, highestRate}
 use Rattle.rules.specs.File.{monthBegins, inTime, updateDates}
-use Rattle.rules.specs.Writer.{Fields, need, fitting, monthRecords, fieldRecords, updateRecord, flagFits, digitsFit, monthsFit, writeAs, writeBody}
+use Rattle.rules.specs.Writer.{Fields, refuse, fitting, monthRecords, fieldRecords, updateRecord, flagFits, digitsFit, monthsFit, writeAs, writeBody}
+use Rattle.rules.specs.Table.{need}
 use Rattle.rules.specs.declared.Cause.{Cause}
 use Rattle.rules.specs.declared.Format.{Format}
 use Rattle.rules.specs.declared.Format.the-variants.{F201, F202, F203, F301}
 use Rattle.calendar.proofs.Tests.{both}
 use Rattle.calendar.proofs.Laws.{first-slot-monotone}
 use Rattle.writer.specs.Fields.{fieldsOf}
-use Rattle.writer.specs.Plan.{needed, monthBegun, monthsPlan, updateDated, updatePlan, planAs, planOf, outputOf}
+use Rattle.writer.specs.Plan.{monthBegun, monthsPlan, updateDated, updatePlan, planAs, planOf, outputOf}
 use Rattle.writer.specs.Room.{UpdateGiven, MonthsGiven}
 use Rattle.writer.specs.declared.plan.Plan.{Plan}
 use Rattle.writer.specs.declared.plan.Plan.the-variants.{Months, Update, Refused}
@@ -150,16 +151,16 @@ kept Update = true
 kept (Refused c) = false
 
 -- such a plan passed each test
-passed : (b : Bool) (c : Cause) (p q : Plan) → kept q ≡ true → needed b c p ≡ q → (b ≡ true) × (p ≡ q)
+passed : (b : Bool) (c : Cause) (p q : Plan) → kept q ≡ true → need b (Refused c) p ≡ q → (b ≡ true) × (p ≡ q)
 passed true c p q a e = (refl, e)
 passed false c p q a e = absurd (false≢true (ap kept e ∙ a))
 
 -- three tests one after the other
-three-passed : (a b d : Bool) (c₁ c₂ c₃ : Cause) (p q : Plan) → kept q ≡ true → needed a c₁ (needed b c₂ (needed d c₃ p)) ≡ q
+three-passed : (a b d : Bool) (c₁ c₂ c₃ : Cause) (p q : Plan) → kept q ≡ true → need a (Refused c₁) (need b (Refused c₂) (need d (Refused c₃) p)) ≡ q
     → (a ≡ true) × (b ≡ true) × (p ≡ q)
 three-passed a b d c₁ c₂ c₃ p q h e =
-    let p₁ = passed a c₁ (needed b c₂ (needed d c₃ p)) q h e in
-    let p₂ = passed b c₂ (needed d c₃ p) q h (p₁ .1) in
+    let p₁ = passed a c₁ (need b (Refused c₂) (need d (Refused c₃) p)) q h e in
+    let p₂ = passed b c₂ (need d (Refused c₃) p) q h (p₁ .1) in
     (p₁ .0, p₂ .0, passed d c₃ p q h (p₂ .1) .1)
 
 months-passed : (k : ℕ) (ident start rates : List ℕ) (q : Plan) → kept q ≡ true → monthsPlan k ident start rates ≡ q
@@ -267,7 +268,7 @@ module _ (w : Fields) where
   unfolding planOf
   plan-passed q h e =
       let o = planAs w (formatOf (w .format)) in
-      let p₁ = passed (plantId (w .plant)) Cause.PlantId (needed (flagFits w) Cause.Range o) q h e in
+      let p₁ = passed (plantId (w .plant)) Cause.PlantId (need (flagFits w) (Refused Cause.Range) o) q h e in
       let p₂ = passed (flagFits w) Cause.Range o q h (p₁ .1) in
       (p₁ .0, p₂ .0, p₂ .1)
 
@@ -292,19 +293,19 @@ module _ (w : Fields) where
   -- ---- the output
 
   module _ (room : ℕ) where
-    one-need : (b : Bool) (c : Cause) (p : Plan) → need b c (outputOf w room p) ≡ outputOf w room (needed b c p)
+    one-need : (b : Bool) (c : Cause) (p : Plan) → need b (refuse c) (outputOf w room p) ≡ outputOf w room (need b (Refused c) p)
     one-need true c p = refl
     one-need false c p = refl
 
     three-needs : (a b d : Bool) (c₁ c₂ c₃ : Cause) (p : Plan)
-        → need a c₁ (need b c₂ (need d c₃ (outputOf w room p))) ≡ outputOf w room (needed a c₁ (needed b c₂ (needed d c₃ p)))
-    three-needs a b d c₁ c₂ c₃ p = rw (one-need d c₃ p, one-need b c₂ (needed d c₃ p)) (one-need a c₁ (needed b c₂ (needed d c₃ p)))
+        → need a (refuse c₁) (need b (refuse c₂) (need d (refuse c₃) (outputOf w room p))) ≡ outputOf w room (need a (Refused c₁) (need b (Refused c₂) (need d (Refused c₃) p)))
+    three-needs a b d c₁ c₂ c₃ p = rw (one-need d c₃ p, one-need b c₂ (need d (Refused c₃) p)) (one-need a c₁ (need b (Refused c₂) (need d (Refused c₃) p)))
 
     -- a 201 or 202
     months-output : (k : ℕ)
-        → need (digits 10 (w .schedule) && digits 12 (w .start) && true) Cause.Form
-        (need (monthsFit k w) Cause.Date
-        (need (allAtMost highestRate (w .rates)) Cause.Rate
+        → need (digits 10 (w .schedule) && digits 12 (w .start) && true) (refuse Cause.Form)
+        (need (monthsFit k w) (refuse Cause.Date)
+        (need (allAtMost highestRate (w .rates)) (refuse Cause.Rate)
         (fitting room (encodeBody (schedule (monthRecords w k (monthAt (w .start)) (w .rates)))))))
         ≡ outputOf w room (monthsPlan k (w .schedule) (w .start) (w .rates))
     unfolding monthsPlan monthsFit
@@ -330,4 +331,4 @@ module _ (w : Fields) where
     output-is =
         let o = formatOf (w .format) in
         let p = planAs w o in
-        rw (output-as o, one-need (flagFits w) Cause.Range p) (one-need (plantId (w .plant)) Cause.PlantId (needed (flagFits w) Cause.Range p))
+        rw (output-as o, one-need (flagFits w) Cause.Range p) (one-need (plantId (w .plant)) Cause.PlantId (need (flagFits w) (Refused Cause.Range) p))

@@ -12,6 +12,7 @@ use Rattle.rules.specs.Name.{formatOf}
 use Rattle.rules.specs.Body.{schedule, encodeBody, highestRate}
 use Rattle.rules.specs.File.{inTime, monthBegins}
 use Rattle.rules.specs.Writer.{Fields, Output, refuse, fitting, monthRecords, updateRecord, flagFits, monthsFit}
+use Rattle.rules.specs.Table.{need}
 use Rattle.rules.specs.declared.Cause.{Cause}
 use Rattle.rules.specs.declared.Format.{Format}
 use Rattle.rules.specs.declared.Format.the-variants.{F201, F202, F203, F301}
@@ -20,10 +21,6 @@ use Rattle.writer.specs.declared.plan.Plan.{Plan}
 use Rattle.writer.specs.declared.plan.Plan.the-variants.{Months, Update, Refused}
 use Rattle.writer.specs.declared.plan.Begun.{Begun}
 use Rattle.writer.specs.declared.plan.Begun.the-variants.{Month, Nothing}
-
-abbrev pub needed : Bool → Cause → Plan → Plan
-needed true c p = p
-needed false c p = Refused c
 
 -- the month that digits begin, where they do
 abbrev pub begunOf : Bool → ℕ → Begun
@@ -36,9 +33,9 @@ monthBegun start = begunOf (exists (wholeMinute start) && monthBegins start) (mo
 -- a 201 or 202: k months from the start's month on
 unfoldable pub monthsPlan : ℕ → List ℕ → List ℕ → List ℕ → Plan
 monthsPlan k ident start rates =
-    needed (digits 10 ident && digits 12 start) Cause.Form
-    (needed (monthsFit k (fieldsOf 0 [] ident start [] rates 0)) Cause.Date
-    (needed (allAtMost highestRate rates) Cause.Rate
+    need (digits 10 ident && digits 12 start) (Refused Cause.Form)
+    (need (monthsFit k (fieldsOf 0 [] ident start [] rates 0)) (Refused Cause.Date)
+    (need (allAtMost highestRate rates) (Refused Cause.Rate)
     (Months (monthAt start) (monthAt start + k))))
 
 -- whether an update's n rates and its next access stand before the end of 2099
@@ -48,9 +45,9 @@ updateDated start next n = inTime n (startSlot start) && exists next
 -- a 203
 unfoldable pub updatePlan : List ℕ → List ℕ → List ℕ → List ℕ → Plan
 updatePlan ident start next rates =
-    needed (digits 10 ident && digits 12 start && (digits 14 next && leb (length rates) 336)) Cause.Form
-    (needed (updateDated start next (length rates)) Cause.Date
-    (needed (allAtMost highestRate rates) Cause.Rate Update))
+    need (digits 10 ident && digits 12 start && (digits 14 next && leb (length rates) 336)) (Refused Cause.Form)
+    (need (updateDated start next (length rates)) (Refused Cause.Date)
+    (need (allAtMost highestRate rates) (Refused Cause.Rate) Update))
 
 abbrev pub planAs : Fields → Option Format → Plan
 planAs w none = Refused Cause.Name
@@ -61,8 +58,8 @@ planAs w (some F301) = Refused Cause.Name
 
 unfoldable pub planOf : Fields → Plan
 planOf w =
-    needed (plantId (w .plant)) Cause.PlantId
-    (needed (flagFits w) Cause.Range
+    need (plantId (w .plant)) (Refused Cause.PlantId)
+    (need (flagFits w) (Refused Cause.Range)
     (planAs w (formatOf (w .format))))
 
 -- the output of a plan, into so much room

@@ -1,8 +1,9 @@
 -- `listing::reading_line` meets its contract, case by case. Assumes nothing.
 use Prim.Native.Nat.{ℕ}
 use mathlib.Core.Path.{_∙_, ap}
+use Rattle.about_files.proofs.Causes.{numbered}
 use Rattle.listing.specs.Line.{lineIn, okText, refusedText}
-use Rattle.listing.proofs.Short.{format-small, cause-small}
+use Rattle.listing.proofs.Short.{format-small}
 use borrow.Author.Needs.{needs}
 use Rattle.listing.proofs.reading_line.Statement.{statement}
 use Rattle.listing.proofs.reading_line.Tie as tie
@@ -26,7 +27,7 @@ cause-number-requires : tie.Need-cause-number-requires
 cause-number-requires c κs = search needs
 
 refused-line-requires : tie.Need-refused-line-requires
-refused-line-requires c κs = rw (c .cause-number .ensures) (cause-small (c .before .before .reading2 .given .0 .0))
+refused-line-requires c κs = rw (c .cause-number .ensures) (numbered (c .before .before .reading2 .given .0 .0) .1)
 
 returns : tie.Need-returns
 returns c =

@@ -1,7 +1,7 @@
--- `held::structs::shut` meets its contract. Assumes nothing.
-use Rattle.c_structs.specs.Held.{shutOf}
-use mathlib.Core.Path.{refl}
+-- `c_structs::structs::shut` meets its contract. Assumes nothing.
+use mathlib.Core.Path.{refl, ap, _∙_}
 use borrow.Author.Needs.{needs}
+use Rattle.c_structs.specs.Held.{settingsHeld, shutOf}
 use Rattle.c_structs.proofs.structs.shut.Statement.{statement}
 use Rattle.c_structs.proofs.structs.shut.Tie as tie
 
@@ -11,9 +11,21 @@ mark-of-requires c κs = search needs
 second-of-requires : tie.Need-second-of-requires
 second-of-requires c κs = search needs
 
+widened-requires : tie.Need-widened-requires
+widened-requires c κs = search needs
+
+held-settings-requires : tie.Need-held-settings-requires
+held-settings-requires c κs = search needs
+
 returns : tie.Need-returns
 unfolding shutOf
-returns c = rw (c .before .mark-of .ensures, c .second-of .ensures) refl
+returns c =
+    let widened = c .before .widened in
+    let second = c .before .before .second-of in
+    let mark = c .before .before .before .mark-of in
+    rw (mark .ensures, second .ensures, c .held-settings .ensures ∙ ap settingsHeld (widened .ensures)) refl
 
 pub shut-spec : {M : Type 1} → statement M
-shut-spec = tie.close (tie.spec mark-of-requires second-of-requires returns)
+shut-spec =
+    tie.close
+    (tie.spec mark-of-requires second-of-requires widened-requires held-settings-requires returns)

@@ -5,7 +5,7 @@ use denote.Ref.{now}
 use borrow.Author.Tests.{not-true, not-false}
 use Rattle.rules.specs.Plant.{plantId, installing}
 use Rattle.rules.specs.declared.Answer.{Answer}
-use Rattle.plant.specs.Plant.{settings}
+use Rattle.plant.specs.Plant.{givenOf}
 use Rattle.plant.proofs.Laws.{id-refuses, setting-refuses, all-accepted, refused-none, accepted-keeps}
 use borrow.Author.Needs.{needs}
 use Rattle.plant.proofs.Plant.install.Statement.{statement}
@@ -30,15 +30,15 @@ returns c =
 is-mac-address-requires : tie.Need-is-mac-address-requires
 is-mac-address-requires c κs = search needs
 
-are-settings-requires : tie.Need-are-settings-requires
-are-settings-requires c κs = search needs
+valid-requires : tie.Need-valid-requires
+valid-requires c κs = search needs
 
 refuse-requires-2 : tie.Need-refuse-requires-2
 refuse-requires-2 c κs = search needs
 
 returns-2 : tie.Need-returns-2
 returns-2 c =
-    let v = c .before .before .are-settings in
+    let v = c .before .before .valid in
     let m = c .before .before .before .is-mac-address in
     let first = passed (c .before .before .before .before) in
     let second = rw (m .ensures, v .ensures) at (not-true (m .result && v .result) (c .before .if2 .taken)) in
@@ -48,9 +48,9 @@ returns-2 c =
 abbrev start : tie.Else2 → tie.Start
 start c = c .before .before .before .before .before .before .before
 
-accepted : (c : tie.Else2) → installing (now (start c .args .id)) (now (start c .args .mac)) (settings (start c .args .panel) (start c .args .inverter) (start c .args .minutes)) ≡ Answer.Accepted
+accepted : (c : tie.Else2) → installing (now (start c .args .id)) (now (start c .args .mac)) (givenOf (start c .args .given)) ≡ Answer.Accepted
 accepted c =
-    let v = c .before .are-settings in
+    let v = c .before .valid in
     let m = c .before .before .is-mac-address in
     let second = rw (m .ensures, v .ensures) at (not-false (m .result && v .result) (c .if2 .left)) in
     all-accepted _ _ _ (passed (c .before .before .before)) second
@@ -69,7 +69,7 @@ install-spec =
     refuse-requires
     returns
     is-mac-address-requires
-    are-settings-requires
+    valid-requires
     refuse-requires-2
     returns-2
     make-requires

@@ -8,24 +8,21 @@ use borrow.Author.Needs.{needs}
 use Rattle.plant.proofs.Plant.percent.Statement.{statement}
 use Rattle.plant.proofs.Plant.percent.Tie as tie
 
-cast-panel : tie.Need-cast-panel
-cast-panel c = search needs
-
 cast-inverter : tie.Need-cast-inverter
 cast-inverter c = search needs
 
 returns : tie.Need-returns
 returns c =
-    let a = c .before .before .before .args in
+    let a = c .before .before .args in
     sym (percent-none (settingsOf (a .self)) (a .rate) (c .if1 .taken))
 
-least-requires : tie.Need-least-requires
-least-requires c κs = search needs
+contracted-requires : tie.Need-contracted-requires
+contracted-requires c κs = search needs
 
 mul-result : tie.Need-mul-result
 mul-result c =
-    let r = c .before .before .before .before .args .rate in
-    omega (arith, product-below r (c .least .result) 255 4294967295 (search needs) (omega arith))
+    let r = c .before .before .before .args .rate in
+    omega (arith, product-below r (c .contracted .result) 255 4294967295 (search needs) (omega arith))
 
 div-result : tie.Need-div-result
 div-result c = search needs
@@ -33,21 +30,20 @@ div-result c = search needs
 cast-result : tie.Need-cast-result
 unfolding percent
 cast-result c =
-    let a = c .before .before .before .before .args in
-    rw (c .least .ensures) (omega (arith, percent-le (settingsOf (a .self)) (a .rate)))
+    let a = c .before .before .before .args in
+    rw (c .contracted .ensures) (omega (arith, percent-le (settingsOf (a .self)) (a .rate)))
 
 returns-2 : tie.Need-returns-2
 unfolding percent
-returns-2 c = rw (c .least .ensures) refl
+returns-2 c = rw (c .contracted .ensures) refl
 
 pub percent-spec : {M : Type 1} → statement M
 percent-spec =
     tie.close
     (tie.spec
-    cast-panel
     cast-inverter
     returns
-    least-requires
+    contracted-requires
     mul-result
     div-result
     cast-result

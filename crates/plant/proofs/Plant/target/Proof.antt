@@ -21,11 +21,11 @@ cast-result-2 c = search needs
 
 mul-result-2 : tie.Need-mul-result-2
 mul-result-2 c =
-    let parts = 60 * c .before .before .args .self .minutes in
+    let parts = 60 * c .before .before .args .self .settings .minutes in
     omega (arith, product-below parts (c .percent .result) (60 * 4294967295) 255 (omega arith) (search needs))
 
 returns : tie.Need-returns
-returns c = ap (λ p. 60 * c .before .before .args .self .minutes * p) (c .percent .ensures)
+returns c = ap (λ p. 60 * c .before .before .args .self .settings .minutes * p) (c .percent .ensures)
 
 pub target-spec : {M : Type 1} → statement M
 target-spec =

@@ -17,24 +17,18 @@ slice-aggregate-is-mac-address c = search needs
 is-mac-address-requires : tie.Need-is-mac-address-requires
 is-mac-address-requires c κs = search needs
 
-cast-are-settings : tie.Need-cast-are-settings
-cast-are-settings c = search needs
+widened-requires : tie.Need-widened-requires
+widened-requires c κs = search needs
 
-cast-are-settings-2 : tie.Need-cast-are-settings-2
-cast-are-settings-2 c = search needs
-
-cast-are-settings-3 : tie.Need-cast-are-settings-3
-cast-are-settings-3 c = search needs
-
-are-settings-requires : tie.Need-are-settings-requires
-are-settings-requires c κs = search needs
+valid-requires : tie.Need-valid-requires
+valid-requires c κs = search needs
 
 returns : tie.Need-returns
 unfolding validPlant
 returns c =
-    let i = c .before .before .before .before .before .before .is-plant-id .ensures in
-    let m = c .before .before .before .before .is-mac-address .ensures in
-    rw (i, m, c .are-settings .ensures) refl
+    let i = c .before .before .before .before .is-plant-id .ensures in
+    let m = c .before .before .is-mac-address .ensures in
+    rw (i, m, c .valid .ensures, c .before .widened .ensures) refl
 
 pub valid-spec : {M : Type 1} → statement M
 valid-spec =
@@ -44,8 +38,6 @@ valid-spec =
     is-plant-id-requires
     slice-aggregate-is-mac-address
     is-mac-address-requires
-    cast-are-settings
-    cast-are-settings-2
-    cast-are-settings-3
-    are-settings-requires
+    widened-requires
+    valid-requires
     returns)
