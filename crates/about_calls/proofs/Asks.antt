@@ -7,7 +7,7 @@ use lib.Dec.{leb, ltb, eqb}
 use borrow.Author.Tests.{lt-ltb, le-leb, leb-true, ltb-true, ltb-false}
 use Rattle.rules.specs.Calendar.{timeOfDay, dayLength, endOfTime}
 use Rattle.rules.specs.Plant.{Settings}
-use Rattle.rules.specs.Store.{Requests, retries, soundRequests}
+use Rattle.rules.specs.Store.{Requests, retries, soundRequests, longestWait}
 use Rattle.rules.specs.Machine.{updateTime, takeUpdate, takeYear, failedUpdate, failedFixed, failed, isClientError, fixedWait, updateWait, refusedWait, windowStart, nextWindow}
 use Rattle.rules.specs.declared.Kind.{Kind}
 use Rattle.plant.proofs.Laws.{InRange}
@@ -21,8 +21,8 @@ pub record Asks (s : Settings) (q : Requests) : Type 0 where
   pub wanted : q .wantedFlag ≤ 10
   pub held : q .heldFlag ≤ 10
   pub failures : q .failures ≤ retries s
-  pub fixed : q .fixedAt < 3155932800
-  pub update : q .updateAt < 3155932800
+  pub fixed : q .fixedAt < endOfTime + longestWait
+  pub update : q .updateAt < endOfTime + longestWait
 
 pub asks-facts : (s : Settings) (q : Requests) → soundRequests s q ≡ true → Asks s q
 unfolding soundRequests
@@ -30,8 +30,8 @@ asks-facts s q e =
     let a = leb (q .wantedFlag) 10 in
     let b = leb (q .heldFlag) 10 in
     let c = leb (q .failures) (retries s) in
-    let d = ltb (q .fixedAt) 3155932800 in
-    let f = ltb (q .updateAt) 3155932800 in
+    let d = ltb (q .fixedAt) (endOfTime + longestWait) in
+    let f = ltb (q .updateAt) (endOfTime + longestWait) in
     let e₄ = both (a && b && c && d) f e in
     let e₃ = both (a && b && c) d (e₄ .0) in
     let e₂ = both (a && b) c (e₃ .0) in
@@ -51,8 +51,8 @@ facts-asks s q a =
       le-leb (q .wantedFlag) 10 (a .wanted),
       le-leb (q .heldFlag) 10 (a .held),
       le-leb (q .failures) (retries s) (a .failures),
-      lt-ltb (q .fixedAt) 3155932800 (a .fixed),
-      lt-ltb (q .updateAt) 3155932800 (a .update),
+      lt-ltb (q .fixedAt) (endOfTime + longestWait) (a .fixed),
+      lt-ltb (q .updateAt) (endOfTime + longestWait) (a .update),
     )
 
 -- ---- a failure
@@ -70,7 +70,7 @@ next-below d t = go (ltb t (t - timeOfDay t + windowStart d)) refl
     go true e = omega (arith, window-below d)
     go false e = omega (arith, ltb-false t (t - timeOfDay t + windowStart d) e)
 
-wait-most : (s : Settings) → InRange s → (x : Bool) → cond x (refusedWait s) (updateWait s) ≤ 172800
+wait-most : (s : Settings) → InRange s → (x : Bool) → cond x (refusedWait s) (updateWait s) ≤ longestWait
 wait-most s range true = range .refused-wait-most
 wait-most s range false = range .update-wait-most
 
@@ -109,7 +109,7 @@ module _ (s : Settings) (range : InRange s) (t : ℕ) (below : t < endOfTime) (q
 
 -- ---- a file
 
-time-most : (clock next : ℕ) → clock < endOfTime → next < endOfTime → updateTime clock next < endOfTime + 172800
+time-most : (clock next : ℕ) → clock < endOfTime → next < endOfTime → updateTime clock next < endOfTime + longestWait
 unfolding updateTime
 time-most clock next a b = omega arith
 
@@ -125,7 +125,7 @@ module _ (s : Settings) (q : Requests) (a : Asks s q) where
       u : ℕ
       u = updateTime clock next
 
-      until : u < endOfTime + 172800
+      until : u < endOfTime + longestWait
       until = time-most clock next low b
 
       go : (x : Bool)

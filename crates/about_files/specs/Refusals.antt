@@ -9,7 +9,6 @@ use Rattle.rules.specs.Table.{appliesIn, Lowest}
 use Rattle.rules.specs.Writer.{Fields, refuse, bytes, writeBody}
 use Rattle.rules.specs.Request.{requestBytes, request}
 use Rattle.rules.specs.Rows.{bodyFor, writerRows, requestRows}
-
 use Rattle.rules.specs.declared.Cause.{Cause}
 
 -- fields, into so much room

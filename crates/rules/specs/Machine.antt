@@ -226,8 +226,9 @@ windowLength s = 1200
 unfoldable pub windowStart : ℕ → ℕ
 windowStart d = timeOfDay (21 * 3600 + 10 * 60 + 1800 * d)
 
+-- the time of day less the window's start, modulo a day: a window that passes midnight goes on into the next day
 unfoldable pub inWindow : Settings → ℕ → ℕ → Bool
-inWindow s d t = leb (windowStart d) (timeOfDay t) && ltb (timeOfDay t) (windowStart d + windowLength s)
+inWindow s d t = ltb (timeOfDay (timeOfDay t + (dayLength - windowStart d))) (windowLength s)
 
 -- 'the first window start later than clock': today's where it is still to come, else tomorrow's
 unfoldable pub nextWindow : ℕ → ℕ → ℕ

@@ -105,14 +105,18 @@ soundBlocks free bs =
     && all (λ b. ltb b blockCount) bs
     && allBelow blockCount (λ b. Bool·beq (free b) (not (member b bs)))
 
+-- two days: no wait is longer
+abbrev pub longestWait : ℕ
+longestWait = 172800
+
 -- 'flags 0 to 10 (10 is none), failures 0 to 5, f and u below T + 172,800'
 unfoldable pub soundRequests : Settings → Requests → Bool
 soundRequests s q =
     leb (q .wantedFlag) noFlag
     && leb (q .heldFlag) noFlag
     && leb (q .failures) (retries s)
-    && ltb (q .fixedAt) (endOfTime + 172800)
-    && ltb (q .updateAt) (endOfTime + 172800)
+    && ltb (q .fixedAt) (endOfTime + longestWait)
+    && ltb (q .updateAt) (endOfTime + longestWait)
 
 -- 'clock unset or below T'
 abbrev pub soundClock : Option ℕ → Bool

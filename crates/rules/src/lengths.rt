@@ -15,6 +15,9 @@ pub const SLOT_COUNT: u32 = DAY_COUNT * SLOTS_OF_DAY;
 // T.
 pub const END_OF_TIME: u32 = SLOT_COUNT * SLOT_LENGTH;
 
+// 'f and u below T + 172,800'.
+pub const LONGEST_WAIT: u32 = 172800;
+
 // 'Months are numbered from January 2000 = 0 to 1199'.
 pub const MONTH_COUNT: u16 = 1200;
 

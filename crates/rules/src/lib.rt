@@ -12,6 +12,7 @@ pub use lengths::FLOOR_LAG;
 pub use lengths::HIGHEST_RATE;
 pub use lengths::LAST_MONTH;
 pub use lengths::LONGEST_MONTH;
+pub use lengths::LONGEST_WAIT;
 pub use lengths::MONTH_COUNT;
 pub use lengths::NO_RATE;
 pub use lengths::SLOT_COUNT;
