@@ -10,6 +10,7 @@ SOURCE = "crates/jagwelu/src/*.rt"
 NUMBERS = {"u32": "uint32_t", "u64": "uint64_t", "usize": "size_t"}
 STRUCTS = {
     "HeldUnit": "struct jag_unit",
+    "HeldSettings": "struct jag_settings",
     "Handed": "struct jag_done",
     "Number": "struct jag_number",
     "WrittenBytes": "struct jag_written",
