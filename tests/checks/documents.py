@@ -1,4 +1,4 @@
-"""Holds README.md, docs/AUDIT.md and the header to the source."""
+"""Holds README.md, the index of statements, docs/AUDIT.md and the header to the source."""
 import sys
 
 import header

@@ -9,8 +9,8 @@ HEADER = "include/jagwelu.h"
 SOURCE = "crates/jagwelu/src/*.rt"
 NUMBERS = {"u32": "uint32_t", "u64": "uint64_t", "usize": "size_t"}
 STRUCTS = {
-    "HeldSettings": "struct jag_settings",
     "HeldUnit": "struct jag_unit",
+    "HeldSettings": "struct jag_settings",
     "Handed": "struct jag_done",
     "Number": "struct jag_number",
     "WrittenBytes": "struct jag_written",

@@ -1,9 +1,10 @@
-"""The two documents that speak of the proofs, taken apart."""
+"""The documents that speak of the proofs, taken apart."""
 import re
 
 from crates import text_of
 
 README = "README.md"
+INDEX = "docs/STATEMENTS.md"
 AUDIT = "docs/AUDIT.md"
 
 

@@ -23,7 +23,7 @@ def checks():
             yield f"{page}: {file} has not: {part.splitlines()[0]}", f"\n{squeezed(part)}\n" in f"\n{source}\n"
     for crate, edit in re.findall(r"\| `(\w+)/(\w+)` \|", text):
         yield f"{page}: there is no edit {crate}/{edit}", os.path.exists(f"crates/{crate}/must-fail/{edit}.edit")
-    for file in sorted(set(re.findall(r"`(crates/[\w/.]+)`", text + crates.text_of(pages.README)))):
+    for file in sorted(set(re.findall(r"`(crates/[\w/.]+)`", text + crates.text_of(pages.README) + crates.text_of(pages.INDEX)))):
         yield f"{file} is named and is not there", os.path.exists(file)
     for law, file in re.findall(r"proved as `([^`]+)` in `([^`]+)`", text):
         crate = file.split("/")[1]

@@ -1,32 +1,32 @@
-"""Statements tied to proofs: each has a proof that the prover reads, is named in the README, and each that is named there has an edit of its
-own text that is refused. The README names laws, in small letters with their file, in the same way."""
+"""Statements tied to proofs: each has a proof that the prover reads, is named in the index of statements, and each that is named there has an edit of its
+own text that is refused. The index names laws, in small letters with their file, in the same way."""
 import re
 
 import crates
 import pages
 from edits import edits
 
-# The statements of these are steps towards those that the README names: it may leave them out. They need a proof all the same.
+# The statements of these are steps towards those that the index names: it may leave them out. They need a proof all the same.
 STEPS = ("about_store", "unit")
 NAME = r"[A-Z]\w*[a-z]\w*"
 
 
 def checks():
     every = crates.statements()
-    named = pages.section(pages.README, "What is proved")
-    yield f"{pages.README} has no section `What is proved` that names a statement", any(s.name in pages.quoted(named) for s in every)
+    named = pages.section(pages.INDEX, "What is proved")
+    yield f"{pages.INDEX} has no section `What is proved` that names a statement", any(s.name in pages.quoted(named) for s in every)
     yield from stated_once(every)
     for statement in every:
         yield f"{statement.file}: {statement.name} has no proof", bool(crates.proofs_of(statement))
         told = statement.name in pages.quoted(named)
         if statement.crate not in STEPS:
-            yield f"{pages.README} does not name {statement.name} of {statement.file}", told
+            yield f"{pages.INDEX} does not name {statement.name} of {statement.file}", told
         if told:
             yield f"{statement.file}: {statement.name} has no edit of its own text", any(edits_it(e, statement) for e in edits(statement.crate))
     yield from names_exist(every, named)
     for law, files in laws(named):
         homes = [file for file in files if is_law(law, file)]
-        yield f"{pages.README}: {law} is in none of the files named beside it", bool(homes)
+        yield f"{pages.INDEX}: {law} is in none of the files named beside it", bool(homes)
         for file in homes:
             yield f"{file}: {law} has no edit", any(edit.names(law) for edit in edits(file.split("/")[1]))
 
@@ -43,9 +43,12 @@ def names_exist(every, named):
     known = {s.name for s in every}
     for word in sorted(set(pages.quoted(named))):
         if re.fullmatch(NAME, word):
-            yield f"{pages.README} names {word}, which no crate states", word in known
+            yield f"{pages.INDEX} names {word}, which no crate states", word in known
     for file, name in pages.stated(pages.AUDIT):
         yield f"{pages.AUDIT} quotes {name}, which {file} does not state", any((s.file, s.name) == (file, name) for s in every)
+    for word in sorted(set(pages.quoted(pages.section(pages.README, "What is proved")))):
+        if re.fullmatch(NAME, word):
+            yield f"{pages.README} names {word}, which no crate states", word in known
     known = {name for path in crates.definitions() for name, _, _ in crates.blocks(path)}
     for word in sorted(set(pages.quoted(crates.text_of(pages.AUDIT)))):
         if re.fullmatch(NAME, word):
@@ -60,7 +63,7 @@ def edits_it(edit, statement):
 
 
 def laws(named):
-    """The laws that the README names, in small letters, each with the files named beside it."""
+    """The laws that the index names, in small letters, each with the files named beside it."""
     for item in pages.items(named):
         words = pages.quoted(item)
         files = [word for word in words if re.fullmatch(r"crates/\w+/(?:specs|proofs)/\S+\.antt", word)]
@@ -74,6 +77,6 @@ def is_law(law, file):
 
 
 def named_laws(crate):
-    """The laws of a crate that the README names."""
-    found = laws(pages.section(pages.README, "What is proved"))
+    """The laws of a crate that the index names."""
+    found = laws(pages.section(pages.INDEX, "What is proved"))
     return [law for law, files in found for file in files if file.split("/")[1] == crate and is_law(law, file)]

@@ -22,6 +22,12 @@ FILES = {
 
 ## What is proved
 
+x is x (`Same`).
+""",
+    "docs/STATEMENTS.md": """# The statements
+
+## What is proved
+
 - `Same` (Law.antt): x is x. And `Both`.
 - A law (`crates/small/proofs/Law.antt`, `same-zero`).
 """,
@@ -111,20 +117,21 @@ TRIALS = [
     ("a statement in a file of proofs that is not declared", "Same has no proof", [("crates/small/proofs/Lib.antt", "-- pub mod Law\n")]),
     ("a file of proofs that is gone, and its line", "Same has no proof", [("crates/small/proofs/Lib.antt", ""), (PROOF, None)]),
     ("a file of definitions that is not declared", "does not declare", [("crates/small/specs/More.antt", "one : N\n")]),
-    ("a statement that the README does not name", "does not name Both", [("README.md", (" And `Both`.", ""))]),
-    ("a statement that is not there", "names Bothe, which", [("README.md", ("`Both`", "`Both` `Bothe`"))]),
+    ("a statement that the index does not name", "does not name Both", [("docs/STATEMENTS.md", (" And `Both`.", ""))]),
+    ("a statement that is not there", "names Bothe, which", [("docs/STATEMENTS.md", ("`Both`", "`Both` `Bothe`"))]),
     ("a statement of two crates", "is stated 2 times", [("crates/user/specs/Law.antt", text) for text in [FILES[LAW]]]),
-    ("no section of what is proved", "has no section", [("README.md", ("## What is proved", "## Proved"))]),
+    ("a statement of the README that is not there", "README.md names Samer, which", [("README.md", ("`Same`", "`Samer`"))]),
+    ("no section of what is proved", "has no section", [("docs/STATEMENTS.md", ("## What is proved", "## Proved"))]),
     ("a statement without an edit", "Same has no edit", [(EDIT, None)]),
     ("an edit that does not name its statement", "Same has no edit", [(EDIT, ("# Same:", "# Sameness:"))]),
     ("an edit of another file", "Same has no edit", [(EDIT, ("Law.antt\nold: one x ≡ one x", "Words.antt\nold: one x = x"))]),
     ("an edit of another definition", "Same has no edit", [(EDIT, ("old: one x ≡ one x", "old: Other = one 0"))]),
     (
-        "a step that the README names and that has no edit",
+        "a step that the index names and that has no edit",
         "Step has no edit",
-        [("crates/unit/specs/Law.antt", "abbrev pub Step : Type 0\nStep = (x : N) → x ≡ x\n"), ("README.md", (" And `Both`.", " And `Both`, `Step`."))],
+        [("crates/unit/specs/Law.antt", "abbrev pub Step : Type 0\nStep = (x : N) → x ≡ x\n"), ("docs/STATEMENTS.md", (" And `Both`.", " And `Both`, `Step`."))],
     ),
-    ("a law that is not there", "same-zeroes is in none", [("README.md", ("`same-zero`", "`same-zeroes`"))]),
+    ("a law that is not there", "same-zeroes is in none", [("docs/STATEMENTS.md", ("`same-zero`", "`same-zeroes`"))]),
     ("a law without an edit", "same-zero has no edit", [("crates/small/must-fail/zero.edit", None)]),
     ("a file missing from the reading list", "come from crates/small/specs/Words.antt", [("docs/AUDIT.md", (ROW, ""))]),
     ("a file listed without a reason", "does not say what", [("docs/AUDIT.md", (ROW, ROW.replace("what one of x is", "")))]),

@@ -7,6 +7,7 @@ use native.Mathlib.Omega.{arith}
 use lib.Dec.{leb}
 use lib.ListN.{length}
 use borrow.Author.Tests.{ltb-true, leb-true}
+use Rattle.rules.specs.Calendar.{lastMonth, monthCount}
 use Rattle.rules.specs.Store.{storeLength}
 use Rattle.rules.specs.Causes.{Reply, accepted}
 use Rattle.rules.specs.Machine.{clockLost, freshMachine, isHeld, anyFile}
@@ -44,8 +45,8 @@ module _ (s : State) (w : Whole s) where
   abbrev view : View
   view = viewIn (s .unit .floor) (stored s)
 
-  low : s .unit .floor ≤ 1199
-  low = omega (arith, ltb-true (s .unit .floor) 1200 (sound-parts (s .unit) (w .unit) .floor))
+  low : s .unit .floor ≤ lastMonth
+  low = omega (arith, ltb-true (s .unit .floor) monthCount (sound-parts (s .unit) (w .unit) .floor))
 
   sound : Sound (s .unit .pool) (s .unit .floor)
   sound = pool-facts (s .unit .pool) (s .unit .floor) (sound-parts (s .unit) (w .unit) .pool)

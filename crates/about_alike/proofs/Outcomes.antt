@@ -6,6 +6,7 @@ use native.Mathlib.Omega.{arith}
 use lib.Dec.{eqb}
 use lib.ListN.{length}
 use borrow.Author.Tests.{lt-ltb, le-leb, eq-eqb}
+use Rattle.rules.specs.Calendar.{monthCount}
 use Rattle.rules.specs.Store.{storeLength, soundRequests, soundClock, soundStore}
 use Rattle.rules.specs.Causes.{Reply}
 use Rattle.rules.specs.Machine.{Call}
@@ -53,7 +54,7 @@ module _ (r : Beside) (v : View) (good : Good r) (plain : Plain v) (st : Stored)
       parts-sound (unitOf r v st)
       (record {
         plant = good .plant;
-        floor = lt-ltb (v .floor) 1200 (omega (arith, h .low));
+        floor = lt-ltb (v .floor) monthCount (omega (arith, h .low));
         pool = facts-pool (st .pool) (v .floor) (h .sound);
         requests = good .requests;
         clock = good .clock;

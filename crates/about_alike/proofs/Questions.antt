@@ -7,8 +7,8 @@ use native.Mathlib.Omega.{arith}
 use lib.Dec.{ltb}
 use borrow.Author.Tests.{ltb-true}
 use Rattle.rules.specs.Plant.{lastDigit}
-use Rattle.rules.specs.Calendar.{firstSlot, monthOfSlot, slotCount}
-use Rattle.rules.specs.Store.{soundClock}
+use Rattle.rules.specs.Calendar.{firstSlot, monthOfSlot, slotCount, monthCount, endOfTime}
+use Rattle.rules.specs.Store.{soundClock, blockCount}
 use Rattle.rules.specs.Causes.{Reply, accepted, refused, numberOf, ofDue, ofCeiling}
 use Rattle.rules.specs.Machine.{clockLost, failure, due, ceilingOf, command, freeBlocks, countBelow, isStatus, failed}
 use Rattle.rules.specs.declared.Cause.{Cause}
@@ -47,7 +47,7 @@ module _ (r : Beside) (v : View) (good : Good r) (plain : Plain v) where
   pub free-outcome : Outcome freeBlocks r v
   unfolding step
   free-outcome =
-      same-state freeBlocks r v good plain (Reply.blocks (16 - countBelow 1200 (v .held)))
+      same-state freeBlocks r v good plain (Reply.blocks (blockCount - countBelow monthCount (v .held)))
       (λ st h. rw (free-done (unitOf r v st) (sound st h), free-view v plain st h))
 
   pub due-outcome : Outcome due r v
@@ -74,7 +74,7 @@ module _ (r : Beside) (v : View) (good : Good r) (plain : Plain v) where
           same-state (ceilingOf slot) r v good plain (ofCeiling (ceilingAnswer (settingsOf (r .plant)) (v .says m (slot - firstSlot m))))
           (λ st h.
           unit.ceiling-done (made r v st) (made-full r v good plain st h) (sound st h) (made-lent r v good plain st h) (ap isUnset c) slot e
-          ∙ ap (λ (o : Option ℕ). (ofCeiling (ceilingAnswer (settingsOf (r .plant)) o), made r v st)) (rate-view v plain st h slot (ltb-true slot 1753200 e)))
+          ∙ ap (λ (o : Option ℕ). (ofCeiling (ceilingAnswer (settingsOf (r .plant)) o), made r v st)) (rate-view v plain st h slot (ltb-true slot slotCount e)))
 
       by-clock : (c : Clock) → r .clock ≡ c → Outcome (ceilingOf slot) r v
       by-clock Unset c =
@@ -128,7 +128,7 @@ module _ (r : Beside) (v : View) (good : Good r) (plain : Plain v) where
               good = record {
                 plant = good .plant;
                 requests = facts-asks _ _
-                    (failed-asks _ range t (ltb-true t 3155760000 time) (requestsOf (r .requests)) (asks-facts _ (requestsOf (r .requests)) (good .requests)) (lastDigit (r .plant .id)) kind status);
+                    (failed-asks _ range t (ltb-true t endOfTime time) (requestsOf (r .requests)) (asks-facts _ (requestsOf (r .requests)) (good .requests)) (lastDigit (r .plant .id)) kind status);
                 clock = time;
                 command = good .command;
               };

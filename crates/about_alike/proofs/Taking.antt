@@ -1,14 +1,16 @@
 -- The outcome of a file: there is room for it in all that show one view or in none, and its records are put alike. Assumes nothing.
-use Prim.Native.Nat.{ℕ, _-_}
+use Prim.Native.Nat.{ℕ, _-_, _<_}
 use mathlib.Core.Path.{_≡_, refl, sym, ap, _∙_}
 use mathlib.Core.Bool.{Bool, true, false}
 use mathlib.Core.List.{List}
 use mathlib.Core.Option.{some}
 use native.Mathlib.Omega.{arith}
 use lib.Dec.{ltb}
-use borrow.Author.Tests.{ltb-false}
+use borrow.Author.Tests.{ltb-true, ltb-false}
+use Rattle.rules.specs.Calendar.{endOfTime, monthCount}
 use Rattle.rules.specs.Body.{Record}
 use Rattle.rules.specs.File.{File, Outcome as Read, refuse, file, takeFile, recordsIn}
+use Rattle.rules.specs.Store.{blockCount, soundClock}
 use Rattle.rules.specs.Causes.{accepted, refused, numberOf}
 use Rattle.rules.specs.Machine.{fileTaken, takeBy, countBelow}
 use Rattle.rules.specs.declared.Cause.{Cause}
@@ -22,7 +24,9 @@ use Rattle.about_store.proofs.Shown.{Plain, free-view}
 use Rattle.about_store.proofs.Rooms.{records-plain, lacking, missing-view, held-more}
 use Rattle.about_store.proofs.Records.{recordsView, records-floor, records-shows}
 use Rattle.polling.specs.Requests.{requestsFrom}
+use Rattle.unit.specs.Values.{clockOf}
 use Rattle.unit.specs.Rows.{isUnset}
+use Rattle.unit.specs.Calls.{clockTime}
 use Rattle.taking.specs.Taken.{withFile, storeWith, fullRow}
 use Rattle.taking.specs.Step.{State}
 use Rattle.unit.specs.declared.Clock.{Clock}
@@ -31,6 +35,10 @@ use Rattle.about_calls.proofs.UnitLaws as unit
 use Rattle.about_calls.proofs.Asks.{asks-facts, facts-asks}
 use Rattle.about_calls.proofs.Taking.{lawful-facts, file-asks}
 use Rattle.about_alike.proofs.Outcomes.{Beside, Good, unitOf, made, made-sound, made-full, made-lent, Outcome, same-state}
+
+clock-low : (c : Clock) → soundClock (clockOf c) ≡ true → clockTime c < endOfTime
+clock-low Unset e = omega arith
+clock-low (At t) e = ltb-true t endOfTime e
 
 module _ (r : Beside) (v : View) (good : Good r) (plain : Plain v) (name body : List ℕ) where
   module _ (f : File) (read : takeFile (r .plant .id) name body ≡ file f) where
@@ -42,7 +50,7 @@ module _ (r : Beside) (v : View) (good : Good r) (plain : Plain v) (name body : 
 
     -- 14 applies
     abbrev isFull : Bool
-    isFull = ltb (16 - countBelow 1200 (v .held)) (lacking v rs run)
+    isFull = ltb (blockCount - countBelow monthCount (v .held)) (lacking v rs run)
 
     full-view : (st : Stored) → Shows st v → fullRow f (unitOf r v st) .applies ≡ isFull
     unfolding fullRow
@@ -55,7 +63,7 @@ module _ (r : Beside) (v : View) (good : Good r) (plain : Plain v) (name body : 
     abbrev beside : Beside
     beside = record {
       plant = r .plant;
-      requests = requestsFrom (takeBy (f .name .format) (f .name) rs (requestsOf (r .requests)));
+      requests = requestsFrom (takeBy (clockTime (r .clock)) (f .name .format) (f .name) rs (requestsOf (r .requests)));
       clock = r .clock;
       command = r .command;
     }
@@ -64,7 +72,7 @@ module _ (r : Beside) (v : View) (good : Good r) (plain : Plain v) (name body : 
     beside-good = record {
       plant = good .plant;
       requests = facts-asks _ _
-          (file-asks _ f (requestsOf (r .requests)) (lawful-facts (some (r .plant .id)) f (taken-exactly (r .plant .id) name body f .0 read .0 .fields))
+          (file-asks _ (clockTime (r .clock)) (clock-low (r .clock) (good .clock)) f (requestsOf (r .requests)) (lawful-facts (some (r .plant .id)) f (taken-exactly (r .plant .id) name body f .0 read .0 .fields))
           (asks-facts _ (requestsOf (r .requests)) (good .requests)));
       clock = good .clock;
       command = good .command;
@@ -88,7 +96,7 @@ module _ (r : Beside) (v : View) (good : Good r) (plain : Plain v) (name body : 
 
     put-shows : isFull ≡ false → (st : Stored) → Shows st v → Shows (putRecords (v .floor) rs st) (recordsView rs v)
     put-shows e st h =
-        let room = ltb-false (16 - countBelow 1200 (v .held)) (lacking v rs run) e in
+        let room = ltb-false (blockCount - countBelow monthCount (v .held)) (lacking v rs run) e in
         records-shows (runStart rs) rs run st v h (omega (arith, held-more v rs run, count-view st v h))
 
   pub take-outcome : Outcome (fileTaken name body) r v

@@ -7,7 +7,8 @@ use mathlib.Core.Option.{Option, none, some}
 use native.Mathlib.Omega.{arith}
 use lib.Dec.{leb, ltb}
 use borrow.Author.Tests.{lt-ltb, leb-false, ltb-true}
-use Rattle.rules.specs.Calendar.{monthOf, slotOf, firstSlot, monthOfSlot, endOfTime}
+use Rattle.rules.specs.Calendar.{monthOf, slotOf, firstSlot, monthOfSlot, endOfTime, lastMonth, monthCount}
+use Rattle.rules.specs.Body.{highestRate}
 use Rattle.rules.specs.Causes.{accepted, refused, numberOf}
 use Rattle.rules.specs.Machine.{tick, raisedFloor, approach, target}
 use Rattle.rules.specs.declared.Cause.{Cause}
@@ -61,17 +62,17 @@ module _ (r : Beside) (v : View) (good : Good r) (plain : Plain v) where
   abbrev risen : ℕ → View
   risen t = releaseView (raisedFloor (v .floor) t) v
 
-  risen-low : (t : ℕ) → t < 3155760000 → v .floor ≤ 1199 → raisedFloor (v .floor) t ≤ 1199
-  risen-low t l low = let b : monthOf t < 1200 = month-below t l in omega arith
+  risen-low : (t : ℕ) → t < endOfTime → v .floor ≤ lastMonth → raisedFloor (v .floor) t ≤ lastMonth
+  risen-low t l low = let b : monthOf t < monthCount = month-below t l in omega arith
 
   -- ---- the clock is set
 
-  set-later : (t : ℕ) → t < 3155760000 → Later (λ store u. setClock t u) r v
+  set-later : (t : ℕ) → t < endOfTime → Later (λ store u. setClock t u) r v
   unfolding setClock
   set-later t l = record {
     beside = record { plant = r .plant; requests = r .requests; clock = At t; command = r .command };
     view = risen t;
-    good = record { plant = good .plant; requests = good .requests; clock = lt-ltb t 3155760000 l; command = good .command };
+    good = record { plant = good .plant; requests = good .requests; clock = lt-ltb t endOfTime l; command = good .command };
     plain = release-plain (raisedFloor (v .floor) t) v plain;
     each = λ st h. record {
       pool = releaseOf (st .pool) (raisedFloor (v .floor) t);
@@ -89,11 +90,11 @@ module _ (r : Beside) (v : View) (good : Good r) (plain : Plain v) where
   abbrev goal : ℕ → ℕ
   goal t = target (settingsOf (r .plant)) (now t)
 
-  goal-most : (o : Option ℕ) → ((x : ℕ) → o ≡ some x → x ≤ 100) → target (settingsOf (r .plant)) o ≤ 6000 * r .plant .settings .minutes
+  goal-most : (o : Option ℕ) → ((x : ℕ) → o ≡ some x → x ≤ highestRate) → target (settingsOf (r .plant)) o ≤ 6000 * r .plant .settings .minutes
   goal-most none k = parts-most (settingsOf (r .plant)) 0 (omega arith)
   goal-most (some x) k = parts-most (settingsOf (r .plant)) x (k x refl)
 
-  second-later : (t : ℕ) → t < 3155760000 → Later (λ store u. second store t u) r v
+  second-later : (t : ℕ) → t < endOfTime → Later (λ store u. second store t u) r v
   unfolding second withCommand setClock
   second-later t l =
       let f = raisedFloor (v .floor) t in
@@ -104,7 +105,7 @@ module _ (r : Beside) (v : View) (good : Good r) (plain : Plain v) where
         good = record {
           plant = good .plant;
           requests = good .requests;
-          clock = lt-ltb t 3155760000 l;
+          clock = lt-ltb t endOfTime l;
           command = approach-most (6000 * r .plant .settings .minutes) (goal t) (r .command)
               (goal-most (now t) (after .rates (monthOfSlot (slotOf t)) (slotOf t - firstSlot (monthOfSlot (slotOf t))))) (good .command);
         };
@@ -135,7 +136,7 @@ none-later r v good plain = record {
   each = λ st h. record { pool = st .pool; is = refl; shows = h };
 }
 
-seconds-later : (k c : ℕ) (r : Beside) (v : View) → Good r → Plain v → c + k < 3155760000 → Later (λ store u. seconds store k c u) r v
+seconds-later : (k c : ℕ) (r : Beside) (v : View) → Good r → Plain v → c + k < endOfTime → Later (λ store u. seconds store k c u) r v
 unfolding seconds
 seconds-later zero c r v good plain l = none-later r v good plain
 seconds-later (suc k) c r v good plain l =
@@ -143,7 +144,7 @@ seconds-later (suc k) c r v good plain l =
     later-then (λ store u. second store (suc c) u) (λ store u. seconds store k (suc c) u) r v a
     (seconds-later k (suc c) (a .beside) (a .view) (a .good) (a .plain) (omega arith))
 
-module _ (r : Beside) (v : View) (good : Good r) (plain : Plain v) (t : ℕ) (l : t < 3155760000) where
+module _ (r : Beside) (v : View) (good : Good r) (plain : Plain v) (t : ℕ) (l : t < endOfTime) where
   ticked-later : Later (λ store u. ticked store t u) r v
   unfolding ticked
   ticked-later = let a = from (r .clock) in record { beside = a .beside; view = a .view; good = a .good; plain = a .plain; each = a .each }
@@ -164,7 +165,7 @@ tick-outcome r v good plain t = go (ltb t endOfTime) refl
         same-state (tick t) r v good plain (refused (numberOf Cause.Range))
         (λ st h. unit.tick-range (made r v st) (made-full r v good plain st h) (made-sound r v good plain st h) (made-lent r v good plain st h) t e)
     go true e =
-        let a = ticked-later r v good plain t (ltb-true t 3155760000 e) in
+        let a = ticked-later r v good plain t (ltb-true t endOfTime e) in
         record {
           reply = accepted;
           beside = a .beside;

@@ -3,17 +3,18 @@
 use Prim.Native.Nat.{ℕ, _+_, _-_, _^_, _≤_, _<_, _*_}
 use mathlib.Core.Path.{_≡_, refl, sym, ap, _∙_}
 use mathlib.Core.Logic.{_↔_}
-use mathlib.Core.Bool.{Bool, true, false, cond, not, _||_, true≢false, false≢true}
+use mathlib.Core.Bool.{Bool, true, false, cond, not, true≢false, false≢true}
 use mathlib.Core.List.{List}
 use mathlib.Core.Option.{Option, none, some}
 use native.Mathlib.Omega.{arith}
-use lib.Dec.{leb, ltb, eqb}
+use lib.Dec.{ltb, eqb}
 use lib.ListN.{length, getD, take, drop}
 use lib.Seq.{getD-drop, getD-take, ext-getD}
 use borrow.Author.Tests.{le-ltb, ltb-true, ltb-false, eqb-true}
 use Rattle.rules.specs.Digits.{part}
-use Rattle.rules.specs.Calendar.{slotsOfMonth}
-use Rattle.rules.specs.Store.{storeLength, blockOf, noRate, toByte, fromByte, all, soundBlock, soundStore}
+use Rattle.rules.specs.Calendar.{slotsOfMonth, lastMonth}
+use Rattle.rules.specs.Body.{highestRate}
+use Rattle.rules.specs.Store.{storeLength, blockOf, noRate, toByte, fromByte, all, soundBlock, soundStore, blockCount, blockLength, lawfulByte}
 use Rattle.rules.specs.Machine.{orZero}
 use Rattle.pool.specs.Blocks.{findOf}
 use Rattle.pool.specs.Held.{InBlock, Held, Sound, heldOf}
@@ -41,30 +42,30 @@ viewIn floor st = record {
 
 byte-same : (x : ℕ) → toByte (fromByte x) ≡ x
 unfolding fromByte
-byte-same x = go (eqb x 255) refl
+byte-same x = go (eqb x noRate) refl
   where
-    go : (t : Bool) → eqb x 255 ≡ t → toByte (cond t none (some x)) ≡ x
-    go true e = sym (eqb-true x 255 e)
+    go : (t : Bool) → eqb x noRate ≡ t → toByte (cond t none (some x)) ≡ x
+    go true e = sym (eqb-true x noRate e)
     go false e = refl
 
 module _ (st : Stored) (full : length (st .store) ≡ storeLength) (lent : soundStore (heldOf (st .pool)) (st .store) ≡ true) where
   sound-block : (m b : ℕ) → InBlock (st .pool) m b → soundBlock m (blockOf (st .store) b) ≡ true
-  sound-block m b k = rw (k .month) at (held-block (st .pool) (st .store) 16 b (k .below) (k .used) lent)
+  sound-block m b k = rw (k .month) at (held-block (st .pool) (st .store) blockCount b (k .below) (k .used) lent)
 
   -- 255 past the month's end
-  past-end : (m b i : ℕ) → InBlock (st .pool) m b → slotsOfMonth m ≤ i → i < 1488 → getD (st .store) (place b i) noRate ≡ noRate
+  past-end : (m b i : ℕ) → InBlock (st .pool) m b → slotsOfMonth m ≤ i → i < blockLength → getD (st .store) (place b i) noRate ≡ noRate
   unfolding soundBlock
   past-end m b i k l h =
       let n = slotsOfMonth m in
       let bytes = blockOf (st .store) b in
-      let rest = and-right (all (λ x. leb x 100 || eqb x noRate) (take n bytes)) (all (λ x. eqb x noRate) (drop n bytes)) (sound-block m b k) in
+      let rest = and-right (all lawfulByte (take n bytes)) (all (λ x. eqb x noRate) (drop n bytes)) (sound-block m b k) in
       let there : n + (i - n) ≡ i = omega arith in
       sym (block-at (st .store) full b (k .below) i h)
       ∙ ap (λ (j : ℕ). getD bytes j noRate) (sym there)
       ∙ sym (getD-drop n bytes (i - n) noRate)
       ∙ eqb-true _ noRate (all-in (λ x. eqb x noRate) (drop n bytes) (i - n) noRate refl rest)
 
-  module _ (floor : ℕ) (months : length (st .pool .months) ≡ 16) (bits : st .pool .free < 2 ^ 16) (low : floor ≤ 1199) (sound : Sound (st .pool) floor) where
+  module _ (floor : ℕ) (months : length (st .pool .months) ≡ blockCount) (bits : st .pool .free < 2 ^ blockCount) (low : floor ≤ lastMonth) (sound : Sound (st .pool) floor) where
     pub shows-own : Shows st (viewIn floor st)
     shows-own = record {
       months = months;
@@ -84,7 +85,7 @@ module _ (st : Stored) (full : length (st .store) ≡ storeLength) (lent : sound
         from m (At b) e t = (b, find-at (st .pool) m b e)
         from m Nothing e t = absurd (false≢true t)
 
-        byte : (m b i : ℕ) → InBlock (st .pool) m b → i < 1488 → findOf (st .pool) m ≡ At b → (t : Bool) → ltb i (slotsOfMonth m) ≡ t
+        byte : (m b i : ℕ) → InBlock (st .pool) m b → i < blockLength → findOf (st .pool) m ≡ At b → (t : Bool) → ltb i (slotsOfMonth m) ≡ t
             → getD (st .store) (place b i) noRate ≡ toByte (cond t (slotRate st m i) none)
         byte m b i k l e true q = rw e (sym (byte-same (getD (st .store) (place b i) noRate)))
         byte m b i k l e false q = past-end m b i k (ltb-false i (slotsOfMonth m) q) l
@@ -101,7 +102,7 @@ module _ (st : Stored) (full : length (st .store) ≡ storeLength) (lent : sound
     }
       where
         rate : (m i r : ℕ) (t : Bool) → ltb i (slotsOfMonth m) ≡ t → (o : Found) → findOf (st .pool) m ≡ o
-            → cond t (rateFound o (st .store) i) none ≡ some r → r ≤ 100
+            → cond t (rateFound o (st .store) i) none ≡ some r → r ≤ highestRate
         rate m i r true q (At b) f e =
             let legal = block-legal (st .store) m b i (ltb-true i (slotsOfMonth m) q) (sound-block m b (find-at (st .pool) m b f)) in
             rw (ap orZero e) at legal
@@ -112,19 +113,19 @@ module _ (st : Stored) (full : length (st .store) ≡ storeLength) (lent : sound
 module _ (st u : Stored) (full : length (st .store) ≡ storeLength) (long : length (u .store) ≡ storeLength)
     (lent : soundStore (heldOf (st .pool)) (st .store) ≡ true) (loan : soundStore (heldOf (u .pool)) (u .store) ≡ true) where
   pub days-same : (m a b : ℕ) → InBlock (st .pool) m a → InBlock (u .pool) m b
-      → part (st .store) (a * 1488) (slotsOfMonth m) ≡ part (u .store) (b * 1488) (slotsOfMonth m) → blockOf (st .store) a ≡ blockOf (u .store) b
+      → part (st .store) (a * blockLength) (slotsOfMonth m) ≡ part (u .store) (b * blockLength) (slotsOfMonth m) → blockOf (st .store) a ≡ blockOf (u .store) b
   days-same m a b i j e =
       ext-getD noRate (blockOf (st .store) a) (blockOf (u .store) b) (size ∙ sym (block-length (u .store) long b (j .below)))
-      (λ n l. let k : n < 1488 = rw size at l in
+      (λ n l. let k : n < blockLength = rw size at l in
       block-at (st .store) full a (i .below) n k ∙ byte n k (ltb n (slotsOfMonth m)) refl ∙ sym (block-at (u .store) long b (j .below) n k))
     where
-      size : length (blockOf (st .store) a) ≡ 1488
+      size : length (blockOf (st .store) a) ≡ blockLength
       size = block-length (st .store) full a (i .below)
 
-      day : (store : List ℕ) (c n : ℕ) → n < slotsOfMonth m → getD (part store (c * 1488) (slotsOfMonth m)) n noRate ≡ getD store (place c n) noRate
-      day store c n l = getD-take (slotsOfMonth m) (drop (c * 1488) store) n noRate l ∙ getD-drop (c * 1488) store n noRate
+      day : (store : List ℕ) (c n : ℕ) → n < slotsOfMonth m → getD (part store (c * blockLength) (slotsOfMonth m)) n noRate ≡ getD store (place c n) noRate
+      day store c n l = getD-take (slotsOfMonth m) (drop (c * blockLength) store) n noRate l ∙ getD-drop (c * blockLength) store n noRate
 
-      byte : (n : ℕ) → n < 1488 → (t : Bool) → ltb n (slotsOfMonth m) ≡ t → getD (st .store) (place a n) noRate ≡ getD (u .store) (place b n) noRate
+      byte : (n : ℕ) → n < blockLength → (t : Bool) → ltb n (slotsOfMonth m) ≡ t → getD (st .store) (place a n) noRate ≡ getD (u .store) (place b n) noRate
       byte n k true q =
           let l = ltb-true n (slotsOfMonth m) q in
           sym (day (st .store) a n l) ∙ ap (λ (x : List ℕ). getD x n noRate) e ∙ day (u .store) b n l
@@ -133,7 +134,7 @@ module _ (st u : Stored) (full : length (st .store) ≡ storeLength) (long : len
           past-end st full lent m a n i l k ∙ sym (past-end u long loan m b n j l k)
 
 -- another pool and store with the same months and bytes has that view too
-pub shows-other : (st u : Stored) (v : View) → Shows st v → length (u .pool .months) ≡ 16 → u .pool .free < 2 ^ 16 → length (u .store) ≡ storeLength → Sound (u .pool) (v .floor)
+pub shows-other : (st u : Stored) (v : View) → Shows st v → length (u .pool .months) ≡ blockCount → u .pool .free < 2 ^ blockCount → length (u .store) ≡ storeLength → Sound (u .pool) (v .floor)
     → ((m : ℕ) → Held (st .pool) m ↔ Held (u .pool) m)
     → ((m a b : ℕ) → InBlock (st .pool) m a → InBlock (u .pool) m b → blockOf (st .store) a ≡ blockOf (u .store) b)
     → Shows u v

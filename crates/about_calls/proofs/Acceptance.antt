@@ -7,10 +7,11 @@ use native.Mathlib.Omega.{arith}
 use lib.Dec.{leb, ltb}
 use lib.ListN.{length}
 use borrow.Author.Tests.{eq-eqb, le-ltb}
+use Rattle.rules.specs.Calendar.{monthCount}
 use Rattle.rules.specs.Name.{encodeName}
 use Rattle.rules.specs.Body.{encodeBody}
 use Rattle.rules.specs.File.{File, file, takeFile, lawful, recordsIn}
-use Rattle.rules.specs.Store.{Held as HeldMonth, storeLength, member}
+use Rattle.rules.specs.Store.{Held as HeldMonth, storeLength, member, blockCount}
 use Rattle.rules.specs.Machine.{anyRecord, countBelow, one}
 use Rattle.rules.specs.Table.{firstOf}
 use Rattle.about_files.proofs.Reading.{taken-exactly}
@@ -62,7 +63,7 @@ pub sound-pool : (u : Unit) → isSound u ≡ true → Sound (u .pool) (u .floor
 sound-pool u e =
     let q = Rattle.rules.specs.Store.soundRequests (Rattle.plant.specs.Plant.settingsOf (u .plant)) (Rattle.polling.specs.Requests.requestsOf (u .requests)) in
     let c = Rattle.rules.specs.Store.soundClock (Rattle.unit.specs.Values.clockOf (u .clock)) in
-    let v = Rattle.plant.specs.Plant.validPlant (u .plant) && ltb (u .floor) 1200 in
+    let v = Rattle.plant.specs.Plant.validPlant (u .plant) && ltb (u .floor) monthCount in
     let s = soundPool (u .pool) (u .floor) in
     let e₃ = both (v && s && q && c) _ (sym (sound-is u) ∙ e) in
     let e₂ = both (v && s && q) c (e₃ .0) in
@@ -78,7 +79,7 @@ module _ (u : Unit) (good : isSound u ≡ true) where
 
   -- a month has a block exactly where it is held
   nothing-held : (m : ℕ) → isNothing (findOf (u .pool) m) ≡ not (holdsMonth u m)
-  nothing-held m = rw (same-months 16 (u .pool)) (go (findOf (u .pool) m) refl)
+  nothing-held m = rw (same-months blockCount (u .pool)) (go (findOf (u .pool) m) refl)
     where
       go : (o : Found) → findOf (u .pool) m ≡ o → isNothing o ≡ not (member m (heldMonths (u .pool)))
       go (At b) e = rw (mem-member m (heldMonths (u .pool)) (months-held (u .pool) m .1 (b, find-at (u .pool) m b e)))
@@ -90,19 +91,19 @@ module _ (u : Unit) (good : isSound u ≡ true) where
               let z : _≡_ {A = ℕ} 0 1 = cc in
               omega arith
 
-  pub held-count : countBelow 1200 (holdsMonth u) ≡ length (heldMonths (u .pool))
+  pub held-count : countBelow monthCount (holdsMonth u) ≡ length (heldMonths (u .pool))
   held-count =
-      count-same 1200 (holdsMonth u) (λ m. member m (heldMonths (u .pool))) (λ m l. ap (member m) (same-months 16 (u .pool)))
-      ∙ count-list 1200 (heldMonths (u .pool)) (months-once (u .pool) (u .floor) 16 (omega arith) facts)
+      count-same monthCount (holdsMonth u) (λ m. member m (heldMonths (u .pool))) (λ m l. ap (member m) (same-months blockCount (u .pool)))
+      ∙ count-list monthCount (heldMonths (u .pool)) (months-once (u .pool) (u .floor) blockCount (omega arith) facts)
       (λ m d. let h = months-held (u .pool) m .0 d in omega (arith, facts .high m (h .0) (h .1)))
 
   -- the months together are those held and those that have no block yet
   pub together-is : (f : File) → GoodFile f
-      → together u f ≡ countBelow 1200 (holdsMonth u) + missing (u .pool) (u .floor) (runStart (recordsIn (f .body))) (runLength (recordsIn (f .body)))
+      → together u f ≡ countBelow monthCount (holdsMonth u) + missing (u .pool) (u .floor) (runStart (recordsIn (f .body))) (runLength (recordsIn (f .body)))
   unfolding together missing
   together-is f g =
       let rs = recordsIn (f .body) in
-      count-add 1200 (holdsMonth u) (λ m. leb (u .floor) m && meets m (runStart rs) (runLength rs) && isNothing (findOf (u .pool) m))
+      count-add monthCount (holdsMonth u) (λ m. leb (u .floor) m && meets m (runStart rs) (runLength rs) && isNothing (findOf (u .pool) m))
       (λ m. leb (u .floor) m && anyRecord m rs || holdsMonth u m)
       (λ m. rw (any-run m (runStart rs) rs g, nothing-held m) (table (leb (u .floor) m) (meets m (runStart rs) (runLength rs)) (holdsMonth u m)))
     where
@@ -114,12 +115,12 @@ module _ (u : Unit) (good : isSound u ≡ true) where
       table false y true = refl
       table false y false = refl
 
-  fits : (f : File) → GoodFile f → together u f ≤ 16 → fullRow f u .applies ≡ false
+  fits : (f : File) → GoodFile f → together u f ≤ blockCount → fullRow f u .applies ≡ false
   unfolding fullRow
   fits f g few =
       let rs = recordsIn (f .body) in
       le-ltb (freeCount (u .pool)) (missing (u .pool) (u .floor) (runStart rs) (runLength rs))
-      (omega (arith, together-is f g, held-count, free-is (u .pool), few-months 16 (u .pool)))
+      (omega (arith, together-is f g, held-count, free-is (u .pool), few-months blockCount (u .pool)))
 
 pub accepts-lawful : AcceptsLawful
 unfolding takeOf firstOf

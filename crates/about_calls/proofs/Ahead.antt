@@ -53,13 +53,13 @@ clock-ahead : (o : Option ℕ) (next : ℕ → Step) (M : Machine) → ((t : ℕ
 clock-ahead none next M h k = k
 clock-ahead (some t) next M h k = h t
 
-file-ahead : (f : File) (M : Machine) → Ahead M → Ahead (withFile f M)
+file-ahead : (t : ℕ) (f : File) (M : Machine) → Ahead M → Ahead (withFile t f M)
 unfolding withFile
-file-ahead f M h = h
+file-ahead t f M h = h
 
-take-ahead : (o : Outcome) (M : Machine) → Ahead M → Ahead (takeOutcome o M .1)
-take-ahead (refuse c) M h = h
-take-ahead (file f) M h = check-ahead (leb (heldCount (withFile f M)) blockCount) Cause.Full (accepted, withFile f M) M (file-ahead f M h) h
+take-ahead : (t : ℕ) (o : Outcome) (M : Machine) → Ahead M → Ahead (takeOutcome t o M .1)
+take-ahead t (refuse c) M h = h
+take-ahead t (file f) M h = check-ahead (leb (heldCount (withFile t f M)) blockCount) Cause.Full (accepted, withFile t f M) M (file-ahead t f M h) h
 
 requests-ahead : (q : Requests) (M : Machine) → Ahead M → Ahead (withRequests q M)
 unfolding withRequests
@@ -77,9 +77,9 @@ step-ahead w (tick t) M h =
     (check-ahead (ltb t endOfTime) Cause.Range done M (tick-ahead (w .settings) t M h) h) h
 step-ahead w clockLost M h = lost-ahead M
 step-ahead w (fileTaken name body) M h =
-    let done : ℕ → Step = λ t. takeOutcome (takeFile (w .plant) name body) M in
+    let done : ℕ → Step = λ t. takeOutcome t (takeFile (w .plant) name body) M in
     check-ahead (eqb (w .storeLength) storeLength) Cause.StoreLength (atClock (M .clock) done M) M
-    (clock-ahead (M .clock) done M (λ t. take-ahead (takeFile (w .plant) name body) M h) h) h
+    (clock-ahead (M .clock) done M (λ t. take-ahead t (takeFile (w .plant) name body) M h) h) h
 step-ahead w (failure kind status) M h =
     let done : ℕ → Step = λ t. (accepted, withRequests (failed (w .settings) (lastDigit (w .plant)) kind t status (M .requests)) M) in
     clock-ahead (M .clock) (λ t. check (isStatus status) Cause.Range (done t) M) M

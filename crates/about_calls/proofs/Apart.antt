@@ -6,7 +6,7 @@ use mathlib.Core.Bool.{Bool, true, false, false≢true}
 use native.Mathlib.Omega.{arith}
 use mathlib.Core.List.{List, [], _∷_}
 use lib.ListN.{length}
-use Rattle.rules.specs.Store.{member}
+use Rattle.rules.specs.Store.{member, blockLength, blockCount}
 use Rattle.rules.specs.Machine.{Machine, Call, freshMachine, isHeld, heldCount, step as machineStep, after as machineAfter}
 use Rattle.plant.specs.Plant.{validPlant, plantOf}
 use Rattle.plant.specs.declared.Plant.{Plant}
@@ -31,10 +31,10 @@ use Rattle.about_calls.proofs.Moves.{Moves, step-moves, list-rises}
 use Rattle.about_calls.proofs.Installed.{state-of, valid-of}
 
 -- two bytes at one place of the store stand in one block
-one-block : (b c i j : ℕ) → i < 1488 → j < 1488 → place b i ≡ place c j → b ≡ c
+one-block : (b c i j : ℕ) → i < blockLength → j < blockLength → place b i ≡ place c j → b ≡ c
 one-block b c i j k l e = omega arith
 
-kept-long : (s : State) (M : Machine) → Kept s M → length (s .unit .pool .months) ≡ 16
+kept-long : (s : State) (M : Machine) → Kept s M → length (s .unit .pool .months) ≡ blockCount
 kept-long s M (agrees e a) = a .months
 kept-long s M (apart e q g f c) = ap (λ (p : Pool). length (p .months)) q
 
@@ -49,7 +49,7 @@ module _ (p : Plant) (valid : validPlant p ≡ true) (n : ℕ) where
     -- a month has a block exactly where the machine holds it
     held-is : (m : ℕ) → Held q m ↔ (isHeld M m ≡ true)
     held-is m =
-        let same : member m (heldMonths q) ≡ isHeld M m = ap (member m) (sym (held-months 16 q)) ∙ follows-holds p valid n s M h .months m in (
+        let same : member m (heldMonths q) ≡ isHeld M m = ap (member m) (sym (held-months blockCount q)) ∙ follows-holds p valid n s M h .months m in (
           λ x. sym same ∙ mem-member m (heldMonths q) (months-held q m .1 x),
           λ e. months-held q m .0 (member-mem m (heldMonths q) (same ∙ e)),
         )
@@ -57,7 +57,7 @@ module _ (p : Plant) (valid : validPlant p ≡ true) (n : ℕ) where
     the-block : (m b : ℕ) → InBlock q m b → BlockOf q m b
     the-block m b i = record { there = i; only = λ c j. sound .one m c b j i }
 
-    owned : (b : ℕ) → b < 16 → isFree q b ≡ false → Owned q M b
+    owned : (b : ℕ) → b < blockCount → isFree q b ≡ false → Owned q M b
     owned b l e =
         let i : InBlock q (monthOf q b) b = record { below = l; used = e; month = refl } in
         record { month = monthOf q b; held = held-is (monthOf q b) .0 (b, i); block = the-block (monthOf q b) b i; alone = λ k j. sym (j .month) }
@@ -76,7 +76,7 @@ module _ (p : Plant) (valid : validPlant p ≡ true) (n : ℕ) where
       sum = free-held q (s .unit .floor) sound (isHeld M) held-is;
     }
       where
-        go : (b : ℕ) → b < 16 → (t : Bool) → isFree q b ≡ t → Unowned q b ⊎ Owned q M b
+        go : (b : ℕ) → b < blockCount → (t : Bool) → isFree q b ≡ t → Unowned q b ⊎ Owned q M b
         go b l true e = inl (record { free = e; none = λ k i. false≢true (sym (i .used) ∙ e) })
         go b l false e = inr (owned b l e)
 

@@ -5,10 +5,10 @@ use mathlib.Core.Bool.{Bool, true, false, cond, not, _&&_, false≢true}
 use native.Mathlib.Omega.{arith}
 use lib.Dec.{leb, ltb, eqb}
 use borrow.Author.Tests.{lt-ltb, le-leb, leb-true, ltb-true, ltb-false}
-use Rattle.rules.specs.Calendar.{timeOfDay, dayLength}
+use Rattle.rules.specs.Calendar.{timeOfDay, dayLength, endOfTime}
 use Rattle.rules.specs.Plant.{Settings}
-use Rattle.rules.specs.Store.{Requests, retries, soundRequests}
-use Rattle.rules.specs.Machine.{takeUpdate, takeYear, failedUpdate, failedFixed, failed, isClientError, fixedWait, updateWait, refusedWait, windowStart, nextWindow}
+use Rattle.rules.specs.Store.{Requests, retries, soundRequests, longestWait}
+use Rattle.rules.specs.Machine.{updateTime, takeUpdate, takeYear, failedUpdate, failedFixed, failed, isClientError, fixedWait, updateWait, refusedWait, windowStart, nextWindow}
 use Rattle.rules.specs.declared.Kind.{Kind}
 use Rattle.plant.proofs.Laws.{InRange}
 
@@ -21,8 +21,8 @@ pub record Asks (s : Settings) (q : Requests) : Type 0 where
   pub wanted : q .wantedFlag ≤ 10
   pub held : q .heldFlag ≤ 10
   pub failures : q .failures ≤ retries s
-  pub fixed : q .fixedAt < 3155932800
-  pub update : q .updateAt < 3155932800
+  pub fixed : q .fixedAt < endOfTime + longestWait
+  pub update : q .updateAt < endOfTime + longestWait
 
 pub asks-facts : (s : Settings) (q : Requests) → soundRequests s q ≡ true → Asks s q
 unfolding soundRequests
@@ -30,8 +30,8 @@ asks-facts s q e =
     let a = leb (q .wantedFlag) 10 in
     let b = leb (q .heldFlag) 10 in
     let c = leb (q .failures) (retries s) in
-    let d = ltb (q .fixedAt) 3155932800 in
-    let f = ltb (q .updateAt) 3155932800 in
+    let d = ltb (q .fixedAt) (endOfTime + longestWait) in
+    let f = ltb (q .updateAt) (endOfTime + longestWait) in
     let e₄ = both (a && b && c && d) f e in
     let e₃ = both (a && b && c) d (e₄ .0) in
     let e₂ = both (a && b) c (e₃ .0) in
@@ -51,30 +51,30 @@ facts-asks s q a =
       le-leb (q .wantedFlag) 10 (a .wanted),
       le-leb (q .heldFlag) 10 (a .held),
       le-leb (q .failures) (retries s) (a .failures),
-      lt-ltb (q .fixedAt) 3155932800 (a .fixed),
-      lt-ltb (q .updateAt) 3155932800 (a .update),
+      lt-ltb (q .fixedAt) (endOfTime + longestWait) (a .fixed),
+      lt-ltb (q .updateAt) (endOfTime + longestWait) (a .update),
     )
 
 -- ---- a failure
 
-window-below : (d : ℕ) → windowStart d < 86400
+window-below : (d : ℕ) → windowStart d < dayLength
 unfolding windowStart
 window-below d = omega arith
 
-next-below : (d t : ℕ) → nextWindow d t ≤ t + 86400
+next-below : (d t : ℕ) → nextWindow d t ≤ t + dayLength
 unfolding nextWindow
 next-below d t = go (ltb t (t - timeOfDay t + windowStart d)) refl
   where
     go : (x : Bool) → ltb t (t - timeOfDay t + windowStart d) ≡ x
-        → cond x (t - timeOfDay t + windowStart d) (t - timeOfDay t + windowStart d + dayLength) ≤ t + 86400
+        → cond x (t - timeOfDay t + windowStart d) (t - timeOfDay t + windowStart d + dayLength) ≤ t + dayLength
     go true e = omega (arith, window-below d)
     go false e = omega (arith, ltb-false t (t - timeOfDay t + windowStart d) e)
 
-wait-most : (s : Settings) → InRange s → (x : Bool) → cond x (refusedWait s) (updateWait s) ≤ 172800
+wait-most : (s : Settings) → InRange s → (x : Bool) → cond x (refusedWait s) (updateWait s) ≤ longestWait
 wait-most s range true = range .refused-wait-most
 wait-most s range false = range .update-wait-most
 
-module _ (s : Settings) (range : InRange s) (t : ℕ) (below : t < 3155760000) (q : Requests) (a : Asks s q) where
+module _ (s : Settings) (range : InRange s) (t : ℕ) (below : t < endOfTime) (q : Requests) (a : Asks s q) where
   pub update-asks : (status : ℕ) → Asks s (failedUpdate s t status q)
   unfolding failedUpdate
   update-asks status = record {
@@ -109,18 +109,28 @@ module _ (s : Settings) (range : InRange s) (t : ℕ) (below : t < 3155760000) (
 
 -- ---- a file
 
+time-most : (clock next : ℕ) → clock < endOfTime → next < endOfTime → updateTime clock next < endOfTime + longestWait
+unfolding updateTime
+time-most clock next a b = omega arith
+
 module _ (s : Settings) (q : Requests) (a : Asks s q) where
   pub year-asks : (digit : ℕ) → digit ≤ 9 → Asks s (takeYear digit q)
   unfolding takeYear
   year-asks digit l = record { wanted = a .wanted; held = omega arith; failures = omega arith; fixed = omega arith; update = a .update }
 
-  pub taken-asks : (flag next : ℕ) → flag ≤ 9 → next < 3155760000 → Asks s (takeUpdate flag next q)
+  pub taken-asks : (clock flag next : ℕ) → clock < endOfTime → flag ≤ 9 → next < endOfTime → Asks s (takeUpdate clock flag next q)
   unfolding takeUpdate
-  taken-asks flag next l b = go (eqb flag (q .wantedFlag))
+  taken-asks clock flag next low l b = go (eqb flag (q .wantedFlag))
     where
+      u : ℕ
+      u = updateTime clock next
+
+      until : u < endOfTime + longestWait
+      until = time-most clock next low b
+
       go : (x : Bool)
           → Asks s (cond x
-          (record { wantedFlag = q .wantedFlag; heldFlag = q .heldFlag; failures = q .failures; fixedAt = q .fixedAt; updateAt = next })
-          (record { wantedFlag = flag; heldFlag = q .heldFlag; failures = 0; fixedAt = 0; updateAt = next }))
-      go true = record { wanted = a .wanted; held = a .held; failures = a .failures; fixed = a .fixed; update = omega arith }
-      go false = record { wanted = omega arith; held = a .held; failures = omega arith; fixed = omega arith; update = omega arith }
+          (record { wantedFlag = q .wantedFlag; heldFlag = q .heldFlag; failures = q .failures; fixedAt = q .fixedAt; updateAt = u })
+          (record { wantedFlag = flag; heldFlag = q .heldFlag; failures = 0; fixedAt = 0; updateAt = u }))
+      go true = record { wanted = a .wanted; held = a .held; failures = a .failures; fixed = a .fixed; update = until }
+      go false = record { wanted = omega arith; held = a .held; failures = omega arith; fixed = omega arith; update = until }

@@ -8,6 +8,7 @@ use native.Mathlib.Omega.{arith}
 use lib.Dec.{leb}
 use lib.ListN.{length}
 use borrow.Author.Tests.{lt-ltb, le-leb}
+use Rattle.rules.specs.Calendar.{monthCount}
 use Rattle.rules.specs.Plant.{fullCommand}
 use Rattle.rules.specs.Store.{storeLength, soundStore, soundRequests, soundClock, member}
 use Rattle.rules.specs.Machine.{Machine, isHeld, anyFile}
@@ -56,7 +57,7 @@ kept-pool : (s : State) (M : Machine) → s .unit .floor ≡ M .floor → Kept s
 kept-pool s M f (agrees e a) = rw f (pool-sound (stored s) M a)
 kept-pool s M f (apart e p g h c) = rw (f, p, h) fresh-sound
 
-kept-floor : (s : State) (M : Machine) → Kept s M → M .floor < 1200
+kept-floor : (s : State) (M : Machine) → Kept s M → M .floor < monthCount
 kept-floor s M (agrees e a) = omega (arith, a .floor)
 kept-floor s M (apart e p g h c) = omega (arith, h)
 
@@ -66,12 +67,12 @@ module _ (p : Plant) (valid : validPlant p ≡ true) (n : ℕ) (s : State) (M : 
 
   pub follows-sound : isSound (s .unit) ≡ true
   follows-sound =
-      let floor : s .unit .floor < 1200 = rw (h .floor) (kept-floor s M (h .kept)) in
+      let floor : s .unit .floor < monthCount = rw (h .floor) (kept-floor s M (h .kept)) in
       sound-is (s .unit)
       ∙ rw (
         h .plant,
         valid,
-        lt-ltb (s .unit .floor) 1200 floor,
+        lt-ltb (s .unit .floor) monthCount floor,
         kept-pool s M (h .floor) (h .kept),
         h .requests,
         h .asks,

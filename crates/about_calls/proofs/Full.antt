@@ -11,7 +11,7 @@ use borrow.Author.Tests.{eq-eqb, lt-ltb, le-ltb, ltb-true, ltb-false}
 use Rattle.rules.specs.Name.{encodeName}
 use Rattle.rules.specs.Body.{encodeBody}
 use Rattle.rules.specs.File.{File, file, takeFile, recordsIn}
-use Rattle.rules.specs.Store.{storeLength, soundStore}
+use Rattle.rules.specs.Store.{storeLength, soundStore, blockCount}
 use Rattle.rules.specs.Table.{firstOf}
 use Rattle.rules.specs.declared.Answer.{Answer}
 use Rattle.rules.specs.declared.Cause.{Cause}
@@ -35,20 +35,20 @@ use Rattle.about_calls.proofs.Acceptance.{few-months, held-count, toget
 
 -- ---- 14 applies exactly where the months together are more than the blocks
 
-pub full-is : (u : Unit) → isSound u ≡ true → (f : File) → GoodFile f → fullRow f u .applies ≡ ltb 16 (together u f)
+pub full-is : (u : Unit) → isSound u ≡ true → (f : File) → GoodFile f → fullRow f u .applies ≡ ltb blockCount (together u f)
 unfolding fullRow
-full-is u good f g = go (ltb 16 (together u f)) refl
+full-is u good f g = go (ltb blockCount (together u f)) refl
   where
     need : ℕ
     need = missing (u .pool) (u .floor) (runStart (recordsIn (f .body))) (runLength (recordsIn (f .body)))
 
-    go : (t : Bool) → ltb 16 (together u f) ≡ t → ltb (freeCount (u .pool)) need ≡ t
+    go : (t : Bool) → ltb blockCount (together u f) ≡ t → ltb (freeCount (u .pool)) need ≡ t
     go true e =
         lt-ltb (freeCount (u .pool)) need
-        (omega (arith, ltb-true 16 (together u f) e, together-is u good f g, held-count u good, free-is (u .pool), few-months 16 (u .pool)))
+        (omega (arith, ltb-true blockCount (together u f) e, together-is u good f g, held-count u good, free-is (u .pool), few-months blockCount (u .pool)))
     go false e =
         le-ltb (freeCount (u .pool)) need
-        (omega (arith, ltb-false 16 (together u f) e, together-is u good f g, held-count u good, free-is (u .pool), few-months 16 (u .pool)))
+        (omega (arith, ltb-false blockCount (together u f) e, together-is u good f g, held-count u good, free-is (u .pool), few-months blockCount (u .pool)))
 
 -- ---- what a call answers, by the first row that applies
 
@@ -72,7 +72,7 @@ full-cause f u = refl
 module _ (u : Unit) (store name body : List ℕ) (t : ℕ) (f : File) where
   full-answer : isSound u ≡ true → length store ≡ storeLength → soundStore (heldOf (u .pool)) store ≡ true → u .clock ≡ Clock.At t
       → takeFile (u .plant .id) name body ≡ file f
-      → takeOf u store name body .answer ≡ answerOf (cond (ltb 16 (together u f)) (some Cause.Full) none)
+      → takeOf u store name body .answer ≡ answerOf (cond (ltb blockCount (together u f)) (some Cause.Full) none)
   unfolding takeOf firstOf
   full-answer good long bytes clock read =
       done-answer (firstOf (takeRows u store name body)) (taken (takeFile (u .plant .id) name body) store u) u
@@ -92,14 +92,14 @@ full-exactly u store t f good long bytes clock law kind =
     let body = encodeBody (f .body) in
     let read : takeFile (u .plant .id) name body ≡ file f =
     taken-exactly (u .plant .id) name body f .1 (record { nameBytes = refl; bodyBytes = refl; fields = law }, kind) in
-    let is : takeOf u store name body .answer ≡ answerOf (cond (ltb 16 (together u f)) (some Cause.Full) none) =
+    let is : takeOf u store name body .answer ≡ answerOf (cond (ltb blockCount (together u f)) (some Cause.Full) none) =
     full-answer u store name body t f good long bytes clock read in (
       (
-        λ e. ltb-true 16 (together u f) (full-test (ltb 16 (together u f)) (sym is ∙ e)),
-        λ l. is ∙ ap (λ (x : Bool). answerOf (cond x (some Cause.Full) none)) (lt-ltb 16 (together u f) l),
+        λ e. ltb-true blockCount (together u f) (full-test (ltb blockCount (together u f)) (sym is ∙ e)),
+        λ l. is ∙ ap (λ (x : Bool). answerOf (cond x (some Cause.Full) none)) (lt-ltb blockCount (together u f) l),
       ),
       (
-        λ e. ltb-false 16 (together u f) (room-test (ltb 16 (together u f)) (sym is ∙ e)),
-        λ l. is ∙ ap (λ (x : Bool). answerOf (cond x (some Cause.Full) none)) (le-ltb 16 (together u f) l),
+        λ e. ltb-false blockCount (together u f) (room-test (ltb blockCount (together u f)) (sym is ∙ e)),
+        λ l. is ∙ ap (λ (x : Bool). answerOf (cond x (some Cause.Full) none)) (le-ltb blockCount (together u f) l),
       ),
     )

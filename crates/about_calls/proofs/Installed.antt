@@ -5,7 +5,8 @@ use mathlib.Core.Bool.{Bool, true, false, cond, not, _&&_}
 use mathlib.Core.List.{List, []}
 use mathlib.Core.Option.{none, some}
 use Rattle.rules.specs.Plant.{Settings, plantId, macAddress, validSettings, installing}
-use Rattle.rules.specs.Store.{freshValues}
+use Rattle.rules.specs.Store.{freshValues, blockCount}
+use Rattle.pool.specs.Blocks.{allFree}
 use Rattle.rules.specs.Machine.{freshMachine, replies as machineReplies, after as machineAfter}
 use Rattle.rules.specs.Table.{firstOf}
 use Rattle.rules.specs.Rows.{installRows}
@@ -72,7 +73,7 @@ every-list-installed id mac set e store cs =
     (sym (state-of id mac set e store))
     (every-list (plantOf id mac set) (valid-of id mac set e) store cs)
 
-all-free : allBelow 16 (bit 65535) ≡ true
+all-free : allBelow blockCount (bit allFree) ≡ true
 unfolding allBelow
 all-free = refl
 
@@ -85,7 +86,7 @@ fresh-values p = record {
   clock = refl;
   floor = refl;
   held = refl;
-  free = λ b l. all-at 16 (bit 65535) all-free b l;
+  free = λ b l. all-at blockCount (bit allFree) all-free b l;
   requests = refl;
   command = refl;
 }

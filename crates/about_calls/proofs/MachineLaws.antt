@@ -6,7 +6,7 @@ use mathlib.Core.List.{List, []}
 use mathlib.Core.Option.{Option, none, some}
 use lib.Dec.{leb, ltb, eqb}
 use Rattle.rules.specs.Plant.{lastDigit}
-use Rattle.rules.specs.Calendar.{endOfTime, slotCount}
+use Rattle.rules.specs.Calendar.{endOfTime, slotCount, monthCount}
 use Rattle.rules.specs.Store.{storeLength, blockCount}
 use Rattle.rules.specs.Causes.{accepted}
 use Rattle.rules.specs.File.{File, Outcome, refuse, file, takeFile}
@@ -30,7 +30,7 @@ count-none (suc k) p h = rw (count-none k p h, h k) refl
 
 pub held-none : (M : Machine) → M .files ≡ [] → heldCount M ≡ 0
 unfolding heldCount
-held-none M e = count-none 1200 (isHeld M) (λ m. files-none M m e)
+held-none M e = count-none monthCount (isHeld M) (λ m. files-none M m e)
 
 module _ (w : Told) (M : Machine) where
   -- ---- due
@@ -113,7 +113,7 @@ module _ (w : Told) (M : Machine) where
 
   module _ (name body : List ℕ) where
     abbrev outcome : ℕ → Step
-    outcome t = takeOutcome (takeFile (w .plant) name body) M
+    outcome t = takeOutcome t (takeFile (w .plant) name body) M
 
     pub take-length : eqb (w .storeLength) storeLength ≡ false → step w (fileTaken name body) M ≡ refusal Cause.StoreLength M
     unfolding step
@@ -128,14 +128,14 @@ module _ (w : Told) (M : Machine) where
       take-unset e = lent-take none e
 
       pub take-refused : (t : ℕ) → M .clock ≡ some t → (c : Cause) → takeFile (w .plant) name body ≡ refuse c → step w (fileTaken name body) M ≡ refusal c M
-      take-refused t e c f = lent-take (some t) e ∙ ap (λ (x : Outcome). takeOutcome x M) f
+      take-refused t e c f = lent-take (some t) e ∙ ap (λ (x : Outcome). takeOutcome t x M) f
 
-      pub take-full : (t : ℕ) → M .clock ≡ some t → (f : File) → takeFile (w .plant) name body ≡ file f → leb (heldCount (withFile f M)) blockCount ≡ false
+      pub take-full : (t : ℕ) → M .clock ≡ some t → (f : File) → takeFile (w .plant) name body ≡ file f → leb (heldCount (withFile t f M)) blockCount ≡ false
           → step w (fileTaken name body) M ≡ refusal Cause.Full M
       take-full t e f g k =
-          lent-take (some t) e ∙ ap (λ (x : Outcome). takeOutcome x M) g ∙ ap (λ (b : Bool). check b Cause.Full (accepted, withFile f M) M) k
+          lent-take (some t) e ∙ ap (λ (x : Outcome). takeOutcome t x M) g ∙ ap (λ (b : Bool). check b Cause.Full (accepted, withFile t f M) M) k
 
-      pub take-done : (t : ℕ) → M .clock ≡ some t → (f : File) → takeFile (w .plant) name body ≡ file f → leb (heldCount (withFile f M)) blockCount ≡ true
-          → step w (fileTaken name body) M ≡ (accepted, withFile f M)
+      pub take-done : (t : ℕ) → M .clock ≡ some t → (f : File) → takeFile (w .plant) name body ≡ file f → leb (heldCount (withFile t f M)) blockCount ≡ true
+          → step w (fileTaken name body) M ≡ (accepted, withFile t f M)
       take-done t e f g k =
-          lent-take (some t) e ∙ ap (λ (x : Outcome). takeOutcome x M) g ∙ ap (λ (b : Bool). check b Cause.Full (accepted, withFile f M) M) k
+          lent-take (some t) e ∙ ap (λ (x : Outcome). takeOutcome t x M) g ∙ ap (λ (b : Bool). check b Cause.Full (accepted, withFile t f M) M) k

@@ -14,6 +14,7 @@ use borrow.Author.Tests.{ltb-true}
 use Rattle.rules.specs.Calendar.{monthOfSlot}
 use Rattle.rules.specs.Body.{Record}
 use Rattle.rules.specs.File.{Outcome, refuse, file, takeFile, startOf, recordsIn}
+use Rattle.rules.specs.Store.{blockCount}
 use Rattle.rules.specs.Machine.{Call, tick, clockLost, fileTaken, failure, due, ceilingOf, command, freeBlocks, raisedFloor}
 use Rattle.rules.specs.Table.{firstOf}
 use Rattle.rules.specs.declared.Cause.{Cause}
@@ -56,11 +57,11 @@ record Adds (p q : Pool) : Type 0 where
 adds-moves : (p q : Pool) (f : ℕ) → Adds p q → Moves p q f
 adds-moves p q f a = record { keep = λ m b i. inl (a .kept .kept m b i); from = a .from }
 
-adds-same : (p : Pool) → length (p .months) ≡ 16 → Adds p p
+adds-same : (p : Pool) → length (p .months) ≡ blockCount → Adds p p
 adds-same p long = record { kept = record { long = long; kept = λ m b i. i }; from = λ m b i. inl i }
 
 -- what is free now was free before
-free-before : (p q : Pool) → Keeps p q → (b : ℕ) → b < 16 → isFree q b ≡ true → isFree p b ≡ true
+free-before : (p q : Pool) → Keeps p q → (b : ℕ) → b < blockCount → isFree q b ≡ true → isFree p b ≡ true
 free-before p q k b l e = go (isFree p b) refl
   where
     go : (t : Bool) → isFree p b ≡ t → isFree p b ≡ true
@@ -73,14 +74,14 @@ adds-then p q r a c = record {
   from = λ m b i. ⊎-elim (λ j. a .from m b j) (λ e. inr (free-before p q (a .kept) b (i .below) e)) (c .from m b i);
 }
 
-open-adds : (m : ℕ) (st : Stored) → length (st .pool .months) ≡ 16 → Adds (st .pool) (openMonth m st .pool)
+open-adds : (m : ℕ) (st : Stored) → length (st .pool .months) ≡ blockCount → Adds (st .pool) (openMonth m st .pool)
 unfolding openMonth
 open-adds m st long = go (findOf (st .pool) m)
   where
     Open : Taken → Type 0
     Open t = Adds (st .pool) (opened (t .pool) (t .place) (st .store) .pool)
 
-    filled : (c : ℕ) → c < 16 → isFree (st .pool) c ≡ true → Open (record { pool = given (st .pool) m c; place = In c })
+    filled : (c : ℕ) → c < blockCount → isFree (st .pool) c ≡ true → Open (record { pool = given (st .pool) m c; place = In c })
     filled c l free = record {
       kept = given-keeps (st .pool) m c long l free;
       from = λ x b i. ⊎-elim (λ w. inr (rw (w .1) free)) (λ w. inl (w .1)) (given-cases (st .pool) m c long l x b i);
@@ -93,7 +94,7 @@ open-adds m st long = go (findOf (st .pool) m)
         (λ z. let w = take-in (st .pool) m z in subst Open (sym (w .3)) (filled (w .0) (w .1) (w .2)))
         (eq-zero-or-pos (freeCount (st .pool)))
 
-lay-adds : (q : Piece) (st : Stored) → length (st .pool .months) ≡ 16 → Adds (st .pool) (layPiece q st .pool)
+lay-adds : (q : Piece) (st : Stored) → length (st .pool .months) ≡ blockCount → Adds (st .pool) (layPiece q st .pool)
 unfolding layPiece
 lay-adds q st long = go (findOf (st .pool) (q .month))
   where
@@ -101,7 +102,7 @@ lay-adds q st long = go (findOf (st .pool) (q .month))
     go (At c) = adds-same (st .pool) long
     go Nothing = adds-same (st .pool) long
 
-piece-adds : (floor : ℕ) (q : Piece) (st : Stored) → length (st .pool .months) ≡ 16 → Adds (st .pool) (putPiece floor q st .pool)
+piece-adds : (floor : ℕ) (q : Piece) (st : Stored) → length (st .pool .months) ≡ blockCount → Adds (st .pool) (putPiece floor q st .pool)
 unfolding putPiece
 piece-adds floor q st long = go (live floor q)
   where
@@ -112,7 +113,7 @@ piece-adds floor q st long = go (live floor q)
         adds-then (st .pool) (u .pool) (layPiece q u .pool) a (lay-adds q u (a .kept .long))
     go false = adds-same (st .pool) long
 
-run-adds : (floor s : ℕ) (rates : List ℕ) (st : Stored) → length (st .pool .months) ≡ 16 → Adds (st .pool) (putRun floor s rates st .pool)
+run-adds : (floor s : ℕ) (rates : List ℕ) (st : Stored) → length (st .pool .months) ≡ blockCount → Adds (st .pool) (putRun floor s rates st .pool)
 unfolding putRun
 run-adds floor s rates st long = go (canPut s rates st)
   where
@@ -126,7 +127,7 @@ run-adds floor s rates st long = go (canPut s rates st)
         adds-then (st .pool) (u .pool) (putPiece floor (pieceIn (suc m) s rates) u .pool) a (piece-adds floor (pieceIn (suc m) s rates) u (a .kept .long))
     go false = adds-same (st .pool) long
 
-records-add : (floor : ℕ) (rs : List Record) (st : Stored) → length (st .pool .months) ≡ 16 → Adds (st .pool) (putRecords floor rs st .pool)
+records-add : (floor : ℕ) (rs : List Record) (st : Stored) → length (st .pool .months) ≡ blockCount → Adds (st .pool) (putRecords floor rs st .pool)
 unfolding putRecords
 records-add floor [] st long = adds-same (st .pool) long
 records-add floor (r ∷ rs) st long =
@@ -162,7 +163,7 @@ released-out p floor m b i = go (ltb m floor) refl
     go true e = inr (ltb-true m floor e)
     go false e = inl (record {
       below = i .below;
-      used = bit-number 16 (freeAfter p floor) b (i .below) ∙ rw (i .used, i .month, e);
+      used = bit-number blockCount (freeAfter p floor) b (i .below) ∙ rw (i .used, i .month, e);
       month = i .month;
     })
 
@@ -204,13 +205,13 @@ done-moves : (o : Option Cause) (u v : Unit) → Moves (u .pool) (v .pool) (v .f
 done-moves none u v h = h
 done-moves (some c) u v h = stays (u .pool) (u .floor)
 
-taken-moves : (o : Outcome) (store : List ℕ) (u : Unit) → length (u .pool .months) ≡ 16 → Moves (u .pool) (taken o store u .pool) (taken o store u .floor)
+taken-moves : (o : Outcome) (store : List ℕ) (u : Unit) → length (u .pool .months) ≡ blockCount → Moves (u .pool) (taken o store u .pool) (taken o store u .floor)
 unfolding withFile
 taken-moves (refuse c) store u long = stays (u .pool) (u .floor)
 taken-moves (file f) store u long =
     adds-moves (u .pool) (withFile f store u .pool) (u .floor) (records-add (u .floor) (recordsIn (f .body)) (record { pool = u .pool; store = store }) long)
 
-pub step-moves : (c : Call) (s : State) → length (s .unit .pool .months) ≡ 16 → Moves (s .unit .pool) (step c s .1 .unit .pool) (step c s .1 .unit .floor)
+pub step-moves : (c : Call) (s : State) → length (s .unit .pool .months) ≡ blockCount → Moves (s .unit .pool) (step c s .1 .unit .pool) (step c s .1 .unit .floor)
 unfolding step tickOf lostOf takeOf failureOf lost withFailure
 step-moves (tick t) s long =
     done-moves (firstOf (rowsOf (tick t) s)) (s .unit) (ticked (s .store) t (s .unit))

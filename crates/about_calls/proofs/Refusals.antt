@@ -9,7 +9,7 @@ use lib.Dec.{leb, ltb}
 use Rattle.rules.specs.Name.{Name, parseName}
 use Rattle.rules.specs.Body.{Body}
 use Rattle.rules.specs.File.{File, Outcome, refuse, file, takeFile}
-use Rattle.rules.specs.Store.{Requests, soundStore}
+use Rattle.rules.specs.Store.{Requests, soundStore, blockCount}
 use Rattle.rules.specs.Causes.{refused, numberOf, ofDue, ofCeiling, ofCommand, ofFreeBlocks}
 use Rattle.rules.specs.Plant.{Settings, lastDigit}
 use Rattle.pool.specs.Blocks.{freeCount}
@@ -55,7 +55,7 @@ rowsOf freeBlocks s = unitRow (s .unit) ∷ []
 
 -- a file: reading's rows, then 14
 module _ (u : Unit) (name body : List ℕ) where
-  full-row : (x : File) → Parsed name body x → fullBreaks u (parseName name) body ≡ ltb 16 (together u x)
+  full-row : (x : File) → Parsed name body x → fullBreaks u (parseName name) body ≡ ltb blockCount (together u x)
   full-row x p = ap (λ (o : Option Name). fullBreaks u o body) (p .nameIs) ∙ ap (λ (o : Option Body). crowds u (x .name) o) (p .bodyIs)
 
   outcome-first : isSound u ≡ true → (o : Outcome) → takeFile (u .plant .id) name body ≡ o
@@ -103,7 +103,7 @@ rows-same command s = rw (or-false (not (isSound (s .unit)))) refl
 rows-same freeBlocks s = rw (or-false (not (isSound (s .unit)))) refl
 
 -- in the order of their places
-pub rows-rise : (c : Call) (s : State) → rising (callRows c s) ≡ true
+rows-rise : (c : Call) (s : State) → rising (callRows c s) ≡ true
 unfolding callRows takenRows
 rows-rise (tick t) s = refl
 rows-rise clockLost s = refl

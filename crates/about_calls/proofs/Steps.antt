@@ -54,7 +54,7 @@ pub kept-same : (s t : State) (M N : Machine) → t .unit .pool ≡ s .unit .poo
 kept-same s t M N q r f g c (agrees e a) = agrees (ap length r ∙ e) (rw (q, r) (same-agrees (stored s) M N f g a))
 kept-same s t M N q r f g c (apart e d h k l) = apart (λ z. e (sym (ap length r) ∙ z)) (q ∙ d) (g ∙ h) (f ∙ k) (c l)
 
-fresh-free : freeCount freshPool ≡ 16
+fresh-free : freeCount freshPool ≡ blockCount
 unfolding freeCount sumBelow
 fresh-free = refl
 
@@ -76,8 +76,8 @@ module _ (p : Plant) (valid : validPlant p ≡ true) (n : ℕ) where
     pub clock-some : (t : ℕ) → u .clock ≡ At t → M .clock ≡ some t
     clock-some t e = sym (h .clock) ∙ ap clockOf e
 
-    time-below : (t : ℕ) → u .clock ≡ At t → t < 3155760000
-    time-below t e = ltb-true t 3155760000 (ap soundClock (sym (clock-some t e)) ∙ h .time)
+    pub time-below : (t : ℕ) → u .clock ≡ At t → t < endOfTime
+    time-below t e = ltb-true t endOfTime (ap soundClock (sym (clock-some t e)) ∙ h .time)
 
     digit-same : lastDigit (p .id) ≡ lastDigit (u .plant .id)
     digit-same = ap (λ (q : Plant). lastDigit (q .id)) (sym (h .plant))
@@ -201,7 +201,7 @@ module _ (p : Plant) (valid : validPlant p ≡ true) (n : ℕ) where
             sim-by p n _ _ _ _ (unit.tick-range s (full l) good (bytes l) t e) (machine.tick-range w M t (eq-eqb n storeLength l) e) (refl, h)
         in-range l true e =
             sim-by p n _ _ _ _ (unit.tick-done s (full l) good (bytes l) t e) (machine.tick-done w M t (eq-eqb n storeLength l) e)
-            (refl, tick-follows p n l s M t (ltb-true t 3155760000 e) h)
+            (refl, tick-follows p n l s M t (ltb-true t endOfTime e) h)
 
         go : (b : Bool) → eqb n storeLength ≡ b → Sim p n (step (tick t) s) (machineStep w (tick t) M)
         go true e = in-range (test-same n storeLength e) (ltb t endOfTime) refl
@@ -227,7 +227,7 @@ module _ (p : Plant) (valid : validPlant p ≡ true) (n : ℕ) where
         in-range l t c true e =
             sim-by p n _ _ _ _ (unit.ceiling-done s (full l) good (bytes l) (ap isUnset c) slot e)
             (machine.ceiling-done w M slot (eq-eqb n storeLength l) t (clock-some t c) e)
-            (ceiling-same _ _ (u .plant) (h .plant) (rate-agrees (stored s) M (agreed l) slot (ltb-true slot 1753200 e)), h)
+            (ceiling-same _ _ (u .plant) (h .plant) (rate-agrees (stored s) M (agreed l) slot (ltb-true slot slotCount e)), h)
 
         by-clock : (l : n ≡ storeLength) (c : Clock) → u .clock ≡ c → Sim p n (step (ceilingOf slot) s) (machineStep w (ceilingOf slot) M)
         by-clock l Unset c =

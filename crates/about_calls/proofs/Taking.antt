@@ -1,6 +1,6 @@
 -- A file taken: the flags and times that it brings are sound, the unit's reply is the machine's, and the unit goes on following.
 use Prim.Native.Nat.{ℕ, zero, suc, _≤_, _<_}
-use mathlib.Core.Path.{_≡_, refl, sym, ap, _∙_, subst}
+use mathlib.Core.Path.{_≡_, refl, sym, ap, ap₂, _∙_, subst}
 use mathlib.Core.Bool.{Bool, true, false, not, _&&_}
 use mathlib.Core.List.{List, [], _∷_}
 use mathlib.Core.Option.{Option, some}
@@ -9,7 +9,7 @@ use lib.Dec.{leb, ltb, eqb}
 use lib.ListN.{length, getD}
 use borrow.Author.Tests.{eq-eqb, leb-true, leb-false, lt-ltb, le-ltb}
 use Rattle.rules.specs.Digits.{allAtMost, allDigits, digits}
-use Rattle.rules.specs.Calendar.{exists, startSlot}
+use Rattle.rules.specs.Calendar.{exists, startSlot, endOfTime}
 use Rattle.rules.specs.Name.{Name, lawfulName, segmentFits, segmentDigit}
 use Rattle.rules.specs.Body.{Body, schedule, registration, formOfRecord, formOfBody, every}
 use Rattle.rules.specs.File.{File, Outcome, refuse, file, takeFile, lawful, idFits, datesHold, ratesHold, checksumsHold, plantsHold, recordDates, updateDates, inTime, recordsIn, flagOf, nextAccess}
@@ -28,6 +28,7 @@ use Rattle.about_store.specs.Agrees.{Agrees}
 use Rattle.about_store.specs.Run.{putRecords, runStart, runLength}
 use Rattle.about_store.proofs.Laws.{put-agrees, taken-good, room-agrees}
 use Rattle.unit.specs.Rows.{isUnset}
+use Rattle.unit.specs.Calls.{clockTime}
 use Rattle.taking.specs.Taken.{withFile, storeWith, fullRow}
 use Rattle.taking.specs.Step.{State, step}
 use Rattle.unit.specs.declared.Unit.{Unit}
@@ -38,7 +39,7 @@ use Rattle.about_calls.proofs.MachineLaws as machine
 use Rattle.about_calls.proofs.UnitLaws as unit
 use Rattle.about_calls.proofs.Follows.{stored, agrees, Follows}
 use Rattle.about_calls.proofs.Asks.{both, Asks, asks-facts, facts-asks, year-asks, taken-asks}
-use Rattle.about_calls.proofs.Steps.{Sim, sim-by, w, good, clock-none, clock-some, short, full, agreed, bytes}
+use Rattle.about_calls.proofs.Steps.{Sim, sim-by, w, good, clock-none, clock-some, time-below, short, full, agreed, bytes}
 
 -- ---- what a lawful file says
 
@@ -74,7 +75,7 @@ flag-low (schedule (r ∷ rs)) e =
     byte-low 9 (r .flag) 0 (both (eqb (length (r .flag)) 1) (allDigits (r .flag)) (d .1) .1)
 
 -- its next access
-next-low : (n : Name) (b : Body) → n .format ≡ F203 → datesHold n b ≡ true → nextAccess (recordsIn b) < 3155760000
+next-low : (n : Name) (b : Body) → n .format ≡ F203 → datesHold n b ≡ true → nextAccess (recordsIn b) < endOfTime
 unfolding datesHold every updateDates
 next-low n (registration plant result) f e = omega arith
 next-low n (schedule []) f e = omega arith
@@ -104,14 +105,14 @@ lawful-facts plant f e =
     let e₁ = both (a && b) c (e₂ .0) in
     record { name = both a b (e₁ .0) .0; form = e₁ .1; dates = e₂ .1 }
 
-pub file-asks : (s : Settings) (f : File) (q : Requests) → Lawful f → Asks s q → Asks s (takeBy (f .name .format) (f .name) (recordsIn (f .body)) q)
-file-asks s f q l a = go (f .name .format) refl
+pub file-asks : (s : Settings) (t : ℕ) → t < endOfTime → (f : File) (q : Requests) → Lawful f → Asks s q → Asks s (takeBy t (f .name .format) (f .name) (recordsIn (f .body)) q)
+file-asks s t low f q l a = go (f .name .format) refl
   where
-    go : (x : Format) → f .name .format ≡ x → Asks s (takeBy x (f .name) (recordsIn (f .body)) q)
+    go : (x : Format) → f .name .format ≡ x → Asks s (takeBy t x (f .name) (recordsIn (f .body)) q)
     go F201 e = year-asks s q a (segmentDigit (f .name .segment)) (segment-low (f .name) (l .name))
     go F202 e = a
     go F203 e =
-        taken-asks s q a (flagOf (recordsIn (f .body))) (nextAccess (recordsIn (f .body)))
+        taken-asks s q a t (flagOf (recordsIn (f .body))) (nextAccess (recordsIn (f .body))) low
         (flag-low (f .body) (ap (λ (x : Format). formOfBody x (f .body)) (sym e) ∙ l .form))
         (next-low (f .name) (f .body) e (l .dates))
     go F301 e = a
@@ -133,26 +134,26 @@ module _ (p : Plant) (valid : validPlant p ≡ true) (n : ℕ) (s : State) (M : 
   abbrev after : File → State
   after f = record { unit = withFile f (s .store) u; store = storeWith (file f) (s .store) u }
 
-  module _ (l : n ≡ storeLength) (f : File) (read : takeFile (p .id) name body ≡ file f) where
+  module _ (l : n ≡ storeLength) (t : ℕ) (set : u .clock ≡ At t) (f : File) (read : takeFile (p .id) name body ≡ file f) where
     lawful-file : Lawful f
     lawful-file = lawful-facts (some (p .id)) f (taken-exactly (p .id) name body f .0 read .0 .fields)
 
     -- 14 applies on both sides or on neither
-    full-same : fullRow f u .applies ≡ not (leb (heldCount (machineWith f M)) blockCount)
+    full-same : fullRow f u .applies ≡ not (leb (heldCount (machineWith t f M)) blockCount)
     unfolding fullRow
     full-same =
         let rs = recordsIn (f .body) in
         lacks-room (freeCount (u .pool)) (missing (u .pool) (u .floor) (runStart rs) (runLength rs))
         ∙ ap (λ (x : ℕ). not (leb (missing (u .pool) x (runStart rs) (runLength rs)) (freeCount (u .pool)))) (h .floor)
-        ∙ ap not (room-agrees (stored s) M (agreed p valid n s M h l) f (taken-good (p .id) name body f read))
+        ∙ ap not (room-agrees (stored s) M (agreed p valid n s M h l) t f (taken-good (p .id) name body f read))
 
-    taken-agrees : heldCount (machineWith f M) ≤ blockCount → Agrees (stored (after f)) (machineWith f M)
+    taken-agrees : heldCount (machineWith t f M) ≤ blockCount → Agrees (stored (after f)) (machineWith t f M)
     unfolding withFile
     taken-agrees few =
-        subst (λ (x : ℕ). Agrees (putRecords x (recordsIn (f .body)) (stored s)) (machineWith f M)) (sym (h .floor))
-        (put-agrees (stored s) M f (taken-good (p .id) name body f read) few (agreed p valid n s M h l))
+        subst (λ (x : ℕ). Agrees (putRecords x (recordsIn (f .body)) (stored s)) (machineWith t f M)) (sym (h .floor))
+        (put-agrees (stored s) M t f (taken-good (p .id) name body f read) few (agreed p valid n s M h l))
 
-    taken-follows : heldCount (machineWith f M) ≤ blockCount → Follows p n (after f) (machineWith f M)
+    taken-follows : heldCount (machineWith t f M) ≤ blockCount → Follows p n (after f) (machineWith t f M)
     unfolding withFile machineWith
     taken-follows few =
         let a = taken-agrees few in
@@ -161,10 +162,10 @@ module _ (p : Plant) (valid : validPlant p ≡ true) (n : ℕ) (s : State) (M : 
           size = a .full ∙ sym l;
           clock = h .clock;
           floor = h .floor;
-          requests = ap (λ q. takeBy (f .name .format) (f .name) (recordsIn (f .body)) q) (h .requests);
+          requests = ap₂ (λ c q. takeBy c (f .name .format) (f .name) (recordsIn (f .body)) q) (ap clockTime set) (h .requests);
           command = h .command;
           time = h .time;
-          asks = facts-asks _ _ (file-asks _ f (M .requests) lawful-file (asks-facts _ (M .requests) (h .asks)));
+          asks = facts-asks _ _ (file-asks _ t (time-below p valid n s M h t set) f (M .requests) lawful-file (asks-facts _ (M .requests) (h .asks)));
           most = h .most;
           kept = agrees (a .full) a;
         }
@@ -180,18 +181,18 @@ module _ (p : Plant) (valid : validPlant p ≡ true) (n : ℕ) (s : State) (M : 
       T = Sim p n (step (fileTaken name body) s) (machineStep (w p valid n) (fileTaken name body) M)
 
       by-room : (l : n ≡ storeLength) (t : ℕ) → u .clock ≡ At t → (f : File) → takeFile (p .id) name body ≡ file f
-          → (b : Bool) → leb (heldCount (machineWith f M)) blockCount ≡ b → T
+          → (b : Bool) → leb (heldCount (machineWith t f M)) blockCount ≡ b → T
       by-room l t c f e false g =
           sim-by p n _ _ _ _
-          (unit.take-full s (full p valid n s M h l) (good p valid n s M h) (bytes p valid n s M h l) (ap isUnset c) name body f (ap (λ (q : Plant). takeFile (q .id) name body) (h .plant) ∙ e) (full-same l f e ∙ ap not g)
+          (unit.take-full s (full p valid n s M h l) (good p valid n s M h) (bytes p valid n s M h l) (ap isUnset c) name body f (ap (λ (q : Plant). takeFile (q .id) name body) (h .plant) ∙ e) (full-same l t c f e ∙ ap not g)
           ∙ ap (λ x. unit.refusal x s) (full-cause f))
           (machine.take-full (w p valid n) M name body (eq-eqb n storeLength l) t (clock-some p valid n s M h t c) f e g)
           (refl, h)
       by-room l t c f e true g =
           sim-by p n _ _ _ _
-          (unit.take-done s (full p valid n s M h l) (good p valid n s M h) (bytes p valid n s M h l) (ap isUnset c) name body f (ap (λ (q : Plant). takeFile (q .id) name body) (h .plant) ∙ e) (full-same l f e ∙ ap not g))
+          (unit.take-done s (full p valid n s M h l) (good p valid n s M h) (bytes p valid n s M h l) (ap isUnset c) name body f (ap (λ (q : Plant). takeFile (q .id) name body) (h .plant) ∙ e) (full-same l t c f e ∙ ap not g))
           (machine.take-done (w p valid n) M name body (eq-eqb n storeLength l) t (clock-some p valid n s M h t c) f e g)
-          (refl, taken-follows l f e (leb-true (heldCount (machineWith f M)) 16 g))
+          (refl, taken-follows l t c f e (leb-true (heldCount (machineWith t f M)) blockCount g))
 
       by-outcome : (l : n ≡ storeLength) (t : ℕ) → u .clock ≡ At t → (o : Outcome) → takeFile (p .id) name body ≡ o → T
       by-outcome l t c (refuse x) e =
@@ -199,7 +200,7 @@ module _ (p : Plant) (valid : validPlant p ≡ true) (n : ℕ) (s : State) (M : 
           (unit.take-refused s (full p valid n s M h l) (good p valid n s M h) (bytes p valid n s M h l) (ap isUnset c) name body x (ap (λ (q : Plant). takeFile (q .id) name body) (h .plant) ∙ e))
           (machine.take-refused (w p valid n) M name body (eq-eqb n storeLength l) t (clock-some p valid n s M h t c) x e)
           (refl, h)
-      by-outcome l t c (file f) e = by-room l t c f e (leb (heldCount (machineWith f M)) blockCount) refl
+      by-outcome l t c (file f) e = by-room l t c f e (leb (heldCount (machineWith t f M)) blockCount) refl
 
       by-clock : (l : n ≡ storeLength) (c : Clock) → u .clock ≡ c → T
       by-clock l Unset c =

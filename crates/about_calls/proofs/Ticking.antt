@@ -7,8 +7,9 @@ use native.Mathlib.Omega.{arith}
 use lib.Dec.{leb}
 use lib.ListN.{length}
 use borrow.Author.Tests.{lt-ltb, leb-false}
-use Rattle.rules.specs.Calendar.{monthOf, slotOf}
+use Rattle.rules.specs.Calendar.{monthOf, slotOf, endOfTime, slotCount, monthCount}
 use Rattle.rules.specs.Plant.{fullCommand}
+use Rattle.rules.specs.Body.{highestRate}
 use Rattle.rules.specs.Store.{storeLength}
 use Rattle.rules.specs.Machine.{Machine, rateOf, raisedFloor, approach, target, moveCommand, setClock as machineSet, second as machineSecond, seconds as machineSeconds, tickFrom as machineFrom, ticked as machineTicked}
 use Rattle.calendar.proofs.Laws.{month-slot, slot-month-few}
@@ -32,10 +33,10 @@ agree-of s M l (apart e q g f c) = absurd (e l)
 
 -- ---- the calendar
 
-pub slot-below : (t : ℕ) → t < 3155760000 → slotOf t < 1753200
+pub slot-below : (t : ℕ) → t < endOfTime → slotOf t < slotCount
 slot-below t l = omega arith
 
-pub month-below : (t : ℕ) → t < 3155760000 → monthOf t < 1200
+pub month-below : (t : ℕ) → t < endOfTime → monthOf t < monthCount
 month-below t l = rw month-slot (slot-month-few (slotOf t) (slot-below t l))
 
 -- ---- the ramp
@@ -58,11 +59,11 @@ with-second t s = record { unit = second (s .store) t (s .unit); store = s .stor
 
 module _ (p : Plant) (n : ℕ) (full : n ≡ storeLength) where
   -- the clock is set
-  set-follows : (s : State) (M : Machine) (t : ℕ) → t < 3155760000 → Follows p n s M → Follows p n (with-clock t s) (machineSet t M)
+  set-follows : (s : State) (M : Machine) (t : ℕ) → t < endOfTime → Follows p n s M → Follows p n (with-clock t s) (machineSet t M)
   unfolding setClock machineSet
   set-follows s M t l h =
       let a : Agrees (stored s) M = agree-of s M (h .size ∙ full) (h .kept) in
-      let b : monthOf t < 1200 = month-below t l in
+      let b : monthOf t < monthCount = month-below t l in
       record {
         plant = h .plant;
         size = h .size;
@@ -70,7 +71,7 @@ module _ (p : Plant) (n : ℕ) (full : n ≡ storeLength) where
         floor = ap (λ (f : ℕ). raisedFloor f t) (h .floor);
         requests = h .requests;
         command = h .command;
-        time = lt-ltb t 3155760000 l;
+        time = lt-ltb t endOfTime l;
         asks = h .asks;
         most = h .most;
         kept = agrees (h .size ∙ full)
@@ -78,7 +79,7 @@ module _ (p : Plant) (n : ℕ) (full : n ≡ storeLength) where
       }
 
   -- the target of a rate of the machine is a command that the unit may have
-  goal-most : (M : Machine) → ((s r : ℕ) → rateOf M s ≡ some r → r ≤ 100) → (s : ℕ) → target (settingsOf p) (rateOf M s) ≤ fullCommand (settingsOf p)
+  goal-most : (M : Machine) → ((s r : ℕ) → rateOf M s ≡ some r → r ≤ highestRate) → (s : ℕ) → target (settingsOf p) (rateOf M s) ≤ fullCommand (settingsOf p)
   goal-most M low s = go (rateOf M s) refl
     where
       go : (o : Option ℕ) → rateOf M s ≡ o → target (settingsOf p) o ≤ fullCommand (settingsOf p)
@@ -86,7 +87,7 @@ module _ (p : Plant) (n : ℕ) (full : n ≡ storeLength) where
       go (some r) e = parts-most (settingsOf p) r (low s r e)
 
   -- a second passes
-  second-follows : (s : State) (M : Machine) (t : ℕ) → t < 3155760000 → Follows p n s M → Follows p n (with-second t s) (machineSecond (settingsOf p) t M)
+  second-follows : (s : State) (M : Machine) (t : ℕ) → t < endOfTime → Follows p n s M → Follows p n (with-second t s) (machineSecond (settingsOf p) t M)
   unfolding second machineSecond withCommand moveCommand machineSet
   second-follows s M t l h =
       let v : State = with-clock t s in
@@ -112,7 +113,7 @@ module _ (p : Plant) (n : ℕ) (full : n ≡ storeLength) where
       same-command : (s : State) (M : Machine) (t : ℕ) → Follows p n s M → s .unit .command ≡ machineSet t M .command
       same-command s M t h = h .command
 
-  seconds-follow : (k c : ℕ) (s : State) (M : Machine) → c + k < 3155760000 → Follows p n s M
+  seconds-follow : (k c : ℕ) (s : State) (M : Machine) → c + k < endOfTime → Follows p n s M
       → Follows p n (record { unit = seconds (s .store) k c (s .unit); store = s .store }) (machineSeconds (settingsOf p) k c M)
   unfolding seconds machineSeconds
   seconds-follow zero c s M l h = h
@@ -120,7 +121,7 @@ module _ (p : Plant) (n : ℕ) (full : n ≡ storeLength) where
       seconds-follow k (suc c) (with-second (suc c) s) (machineSecond (settingsOf p) (suc c) M) (omega arith) (second-follows s M (suc c) (omega arith) h)
 
   -- a tick to t
-  pub tick-follows : (s : State) (M : Machine) (t : ℕ) → t < 3155760000 → Follows p n s M
+  pub tick-follows : (s : State) (M : Machine) (t : ℕ) → t < endOfTime → Follows p n s M
       → Follows p n (record { unit = ticked (s .store) t (s .unit); store = s .store }) (machineTicked (settingsOf p) t M)
   unfolding ticked machineTicked
   tick-follows s M t l h = go (s .unit .clock) (M .clock) (h .clock)

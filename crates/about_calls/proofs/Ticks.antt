@@ -8,8 +8,8 @@ use native.Mathlib.Omega.{arith}
 use lib.Dec.{ltb}
 use lib.ListN.{length}
 use borrow.Author.Tests.{le-leb, le-ltb, lt-ltb, eq-eqb, ltb-true}
-use Rattle.rules.specs.Calendar.{monthOf}
-use Rattle.rules.specs.Store.{storeLength, soundClock, soundStore}
+use Rattle.rules.specs.Calendar.{monthOf, endOfTime}
+use Rattle.rules.specs.Store.{storeLength, soundClock, soundStore, blockCount}
 use Rattle.rules.specs.Machine.{Machine, raisedFloor, freshMachine, after as machineAfter}
 use Rattle.rules.specs.Table.{firstOf}
 use Rattle.rules.specs.declared.Answer.{Answer}
@@ -46,12 +46,12 @@ unfolding sumBelow
 number-same zero s t h = refl
 number-same (suc k) s t h = rw (h k (omega arith), number-same k s t (λ b l. h b (omega arith)))
 
-release-none : (p : Pool) (floor : ℕ) → p .free < 2 ^ 16 → Sound p floor → releaseOf p floor ≡ p
+release-none : (p : Pool) (floor : ℕ) → p .free < 2 ^ blockCount → Sound p floor → releaseOf p floor ≡ p
 unfolding releaseOf
 release-none p floor few s =
-    λ i. record { months = p .months; free = (number-same 16 (freeAfter p floor) (bit (p .free)) each ∙ number-bits 16 (p .free) few) i }
+    λ i. record { months = p .months; free = (number-same blockCount (freeAfter p floor) (bit (p .free)) each ∙ number-bits blockCount (p .free) few) i }
   where
-    each : (b : ℕ) → b < 16 → freeAfter p floor b ≡ bit (p .free) b
+    each : (b : ℕ) → b < blockCount → freeAfter p floor b ≡ bit (p .free) b
     each b l = go (isFree p b) refl
       where
         go : (x : Bool) → isFree p b ≡ x → (x || ltb (blockMonth p b) floor) ≡ x
@@ -64,10 +64,10 @@ set-same u c e f g =
     λ i. record { plant = u .plant; pool = g i; requests = u .requests; clock = sym e i; floor = f i; command = u .command }
 
 tick-same : (u : Unit) (store : List ℕ) (c : ℕ) → u .clock ≡ At c → isSound u ≡ true → length store ≡ storeLength → soundStore (heldOf (u .pool)) store ≡ true
-    → c < 3155760000 → setClock c u ≡ u → tickOf u store c ≡ record { unit = u; answer = Answer.Accepted }
+    → c < endOfTime → setClock c u ≡ u → tickOf u store c ≡ record { unit = u; answer = Answer.Accepted }
 unfolding tickOf firstOf ticked
 tick-same u store c set good long bytes below same =
-    rw (eq-eqb (length store) storeLength long, good, bytes, lt-ltb c 3155760000 below)
+    rw (eq-eqb (length store) storeLength long, good, bytes, lt-ltb c endOfTime below)
     (ap (λ (v : Unit). record { unit = v; answer = Answer.Accepted }) (stands (u .clock) set ∙ same))
   where
     stands : (k : Clock) → k ≡ At c → tickFrom store c k u ≡ setClock c u
@@ -88,8 +88,8 @@ no-second p valid store cs c set = go (h .kept)
     clock : M .clock ≡ some c
     clock = sym (h .clock) ∙ ap clockOf set
 
-    below : c < 3155760000
-    below = ltb-true c 3155760000 (ap soundClock (sym clock) ∙ h .time)
+    below : c < endOfTime
+    below = ltb-true c endOfTime (ap soundClock (sym clock) ∙ h .time)
 
     floor : raisedFloor (s .unit .floor) c ≡ s .unit .floor
     floor = rw (h .floor) (stays (list-ahead (told p store) cs freshMachine fresh-ahead c clock))

@@ -6,7 +6,7 @@ use mathlib.Core.List.{List}
 use lib.ListN.{length}
 use Rattle.rules.specs.Calendar.{slotCount}
 use Rattle.rules.specs.File.{File, file, takeFile, recordsIn}
-use Rattle.rules.specs.Store.{storeLength}
+use Rattle.rules.specs.Store.{storeLength, blockCount}
 use Rattle.rules.specs.Machine.{Call, tick, clockLost, fileTaken, failure, due, ceilingOf, command, freeBlocks, freshMachine, rateOf, anyRecord, after as machineAfter}
 use Rattle.rules.specs.declared.Answer.{Answer}
 use Rattle.plant.specs.Plant.{validPlant}
@@ -29,7 +29,7 @@ LatestRate =
 abbrev pub TakeUntouched : Type 0
 TakeUntouched =
     (u : Unit) (store name body : List ℕ) (f : File)
-    → length (u .pool .months) ≡ 16
+    → length (u .pool .months) ≡ blockCount
     → takeFile (u .plant .id) name body ≡ file f
     → takeOf u store name body .answer ≡ Answer.Accepted
     → Untouched (u .floor) (λ m. anyRecord m (recordsIn (f .body)))

@@ -9,7 +9,7 @@ use lib.Dec.{lit<, lit≤}
 use lib.ListN.{length, length-append, drop-of-length-le}
 use lib.Seq.{take-all}
 use Rattle.rules.specs.Digits.{part, allAtMost, allDigits, digits, valueFrom, value, decimal}
-use Rattle.rules.specs.Calendar.{yearIn, monthIn, dayIn, hourIn, minuteIn, monthAt, exists, wholeMinute}
+use Rattle.rules.specs.Calendar.{yearIn, monthIn, dayIn, hourIn, minuteIn, monthAt, exists, wholeMinute, monthCount}
 use Rattle.rules.specs.File.{monthBegins}
 use Rattle.rules.specs.Writer.{monthStart}
 use Rattle.about_files.proofs.Booleans.{join, same-equal, equal-same}
@@ -68,7 +68,7 @@ module _ (m : ℕ) where
   pub start-begins : monthBegins (monthStart m) ≡ true
   start-begins = equal-same (past 0 6)
 
-  module _ (h : m < 1200) where
+  module _ (h : m < monthCount) where
     year-start : yearIn (monthStart m) ≡ 2000 + m / 12
     year-start = ap value (here year (month ++ firstMoment) l-year) ∙ value-decimal 4 (2000 + m / 12) (omega arith)
 
@@ -119,7 +119,7 @@ module _ (s : List ℕ) (d : digits 12 s ≡ true) (e : exists (wholeMinute s) �
       let c = days-most (monthAt (wholeMinute s)) in
       omega arith
 
-  pub at-small : monthAt s < 1200
+  pub at-small : monthAt s < monthCount
   at-small =
       let y = start-year in
       let n = start-month in

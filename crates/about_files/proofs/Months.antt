@@ -11,8 +11,8 @@ use lib.ListN.{length, take, drop, length-take, length-drop, take-append-drop}
 use lib.Seq.{length-take-le}
 use borrow.Author.Tests.{eq-eqb}
 use Rattle.rules.specs.Digits.{allAtMost, digits, value, decimal}
-use Rattle.rules.specs.Calendar.{slotsOfMonth, monthIn, dayIn}
-use Rattle.rules.specs.Body.{Record, mostRates, flagDigits, nextDigits, formOfRecord, every}
+use Rattle.rules.specs.Calendar.{slotsOfMonth, monthIn, dayIn, monthCount}
+use Rattle.rules.specs.Body.{Record, mostRates, flagDigits, nextDigits, formOfRecord, every, highestRate}
 use Rattle.rules.specs.File.{wholeMonth, monthsFrom, sum, checksumOf}
 use Rattle.rules.specs.Writer.{Fields, monthStart, monthRecord, monthRecords}
 use Rattle.rules.specs.declared.Format.{Format}
@@ -55,11 +55,11 @@ module _ (w : Fields) where
   months-every p h zero m rates = refl
   months-every p h (suc k) m rates = join (h m rates) (months-every p h k (suc m) (drop (slotsOfMonth m) rates))
 
-  pub months-rates : (k m : ℕ) (rates : List ℕ) → allAtMost 100 rates ≡ true → every (λ r. allAtMost 100 (r .rates)) (monthRecords w k m rates) ≡ true
+  pub months-rates : (k m : ℕ) (rates : List ℕ) → allAtMost highestRate rates ≡ true → every (λ r. allAtMost highestRate (r .rates)) (monthRecords w k m rates) ≡ true
   unfolding monthRecords every
   months-rates zero m rates e = refl
   months-rates (suc k) m rates e =
-      let h = halves 100 (slotsOfMonth m) rates e in
+      let h = halves highestRate (slotsOfMonth m) rates e in
       join (h .0) (months-rates k (suc m) (drop (slotsOfMonth m) rates) (h .1))
 
   pub months-joined : (k m : ℕ) (rates : List ℕ) → length rates ≡ slotsFrom k m → endToEnd (monthRecords w k m rates) ≡ rates
@@ -70,11 +70,11 @@ module _ (w : Fields) where
       let i = months-joined k (suc m) (drop (slotsOfMonth m) rates) (simp length-drop (omega arith)) in
       ap (λ (t : List ℕ). take (slotsOfMonth m) rates ++ t) i ∙ take-append-drop (slotsOfMonth m) rates
 
-  pub months-dates : (k m : ℕ) (rates : List ℕ) → m + k ≤ 1200 → length rates ≡ slotsFrom k m → monthsFrom m (monthRecords w k m rates) ≡ true
+  pub months-dates : (k m : ℕ) (rates : List ℕ) → m + k ≤ monthCount → length rates ≡ slotsFrom k m → monthsFrom m (monthRecords w k m rates) ≡ true
   unfolding monthRecords monthsFrom wholeMonth slotsFrom
   months-dates zero m rates h e = refl
   months-dates (suc k) m rates h e =
-      let small : m < 1200 = omega arith in
+      let small : m < monthCount = omega arith in
       let l : length (take (slotsOfMonth m) rates) ≡ slotsOfMonth m = length-take-le (slotsOfMonth m) rates (omega arith) in
       let i = months-dates k (suc m) (drop (slotsOfMonth m) rates) (omega arith) (simp length-drop (omega arith)) in
       join (join (join (join (start-exists m small) (eq-eqb _ _ (at-start m small))) (start-begins m)) (eq-eqb _ _ l)) i

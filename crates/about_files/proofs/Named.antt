@@ -10,7 +10,7 @@ use lib.ListN.{length, length-append}
 use lib.Seq.{take-all}
 use borrow.Author.Tests.{le-leb}
 use Rattle.rules.specs.Digits.{part, allAtMost, digits, valueFrom, value, decimal}
-use Rattle.rules.specs.Calendar.{monthAt}
+use Rattle.rules.specs.Calendar.{monthAt, monthCount}
 use Rattle.rules.specs.Name.{segmentFits, segmentMonth}
 use Rattle.rules.specs.Body.{Record, countOf, tailDigits, formOfRecord, every, encodeRecord, encodeRecords, encodeBody}
 use Rattle.rules.specs.Writer.{Fields, fieldRecords, monthsFit}
@@ -32,7 +32,7 @@ module _ (w : Fields) (a : Fit F202 w) where
   abbrev segment : List ℕ
   segment = decimal 2 (m / 12) ++ decimal 2 (m % 12 + 1)
 
-  month-small : m < 1200
+  month-small : m < monthCount
   unfolding monthsFit
   month-small = at-small (w .start) (digits-parts F202 w (a .digits) .1) (both _ _ (both _ _ (both _ _ (a .dates) .0) .0) .0)
 

@@ -12,7 +12,7 @@ use borrow.Author.Tests.{leb-true, leb-false, lt-ltb, le-ltb}
 use Rattle.rules.specs.Digits.{digits, allAtMost}
 use Rattle.rules.specs.Plant.{plantId, macAddress}
 use Rattle.rules.specs.Name.{formatOf, formatNumber, anySegment}
-use Rattle.rules.specs.Body.{schedule, encodeBody}
+use Rattle.rules.specs.Body.{schedule, encodeBody, highestRate}
 use Rattle.rules.specs.File.{updateDates}
 use Rattle.rules.specs.Table.{need, Row, firstOf, appliesIn, Lowest}
 use Rattle.rules.specs.Writer.{Fields, Output, refuse, bytes, flagFits, digitsFit, updateRecord, monthsFit, fitting, writeAs, writeBody}
@@ -110,14 +110,14 @@ module _ (w : Fields) (room : ℕ) where
       need (not (formatBreaks w)) (refuse Cause.Name)
       (need (not (digitsBreak w)) (refuse Cause.Form)
       (need (not (datesBreak w)) (refuse Cause.Date)
-      (need (not (not (allAtMost 100 (w .rates)))) (refuse Cause.Rate)
+      (need (not (not (allAtMost highestRate (w .rates)))) (refuse Cause.Rate)
       (need (not (roomBreaks (bodyFor w) room)) (refuse Cause.Buffer) (bytes (bodyFor w))))))
 
   rest-with : (n d t : Bool) {b : List ℕ} → not (formatBreaks w) ≡ n → not (digitsBreak w) ≡ d → not (datesBreak w) ≡ t → bodyFor w ≡ b
       → rest
       ≡ need n (refuse Cause.Name)
-      (need d (refuse Cause.Form) (need t (refuse Cause.Date) (need (allAtMost 100 (w .rates)) (refuse Cause.Rate) (fitting room b))))
-  rest-with n d t {b} e₁ e₂ e₃ e₄ = rw (e₁, e₂, e₃, Bool·not-not (allAtMost 100 (w .rates)), e₄, room-is b room) refl
+      (need d (refuse Cause.Form) (need t (refuse Cause.Date) (need (allAtMost highestRate (w .rates)) (refuse Cause.Rate) (fitting room b))))
+  rest-with n d t {b} e₁ e₂ e₃ e₄ = rw (e₁, e₂, e₃, Bool·not-not (allAtMost highestRate (w .rates)), e₄, room-is b room) refl
 
   -- which of the three formats the number is
   record Number (x y z : Bool) : Type 0 where

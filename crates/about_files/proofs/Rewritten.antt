@@ -14,7 +14,7 @@ use Rattle.rules.specs.Digits.{allAtMost, digits, value, decimal, sameBytes}
 use Rattle.rules.specs.Calendar.{exists, monthAt, wholeMinute, slotsOfMonth, firstSlot, monthCount}
 use Rattle.rules.specs.Plant.{plantId}
 use Rattle.rules.specs.Name.{Name, formatOf, segmentMonth}
-use Rattle.rules.specs.Body.{Record, schedule, countOf, flagDigits, nextDigits, formOfRecord, every, isSchedule, formOfBody, encodeBody}
+use Rattle.rules.specs.Body.{Record, schedule, countOf, flagDigits, nextDigits, formOfRecord, every, isSchedule, formOfBody, encodeBody, highestRate}
 use Rattle.rules.specs.File.{File, monthBegins, wholeMonth, monthsFrom, updateDates, recordDates, datesHold, ratesHold, checksumsHold, plantsHold, checksumOf}
 use Rattle.rules.specs.Writer.{Fields, bytes, fieldRecords, monthStart, monthRecord, monthRecords, updateRecord, digitsFit, monthsFit, writeBody}
 use Rattle.rules.specs.declared.Format.{Format}
@@ -53,12 +53,12 @@ sum-back : (r : Record) → Digits 2 (r .checksum) → eqb (value (r .checksum))
     → decimal 2 (checksumOf (r .start) (r .rates)) ≡ r .checksum
 sum-back r d e = ap (decimal 2) (sym (eqb-true _ _ e)) ∙ decimal-value (r .checksum) 2 (d .long) (d .each)
 
-pub rates-joined : (rs : List Record) → every (λ r. allAtMost 100 (r .rates)) rs ≡ true → allAtMost 100 (endToEnd rs) ≡ true
+pub rates-joined : (rs : List Record) → every (λ r. allAtMost highestRate (r .rates)) rs ≡ true → allAtMost highestRate (endToEnd rs) ≡ true
 unfolding every allAtMost
 rates-joined [] e = refl
 rates-joined (r ∷ rs) e =
-    let p = both (allAtMost 100 (r .rates)) (every (λ q. allAtMost 100 (q .rates)) rs) e in
-    all-append 100 (r .rates) (endToEnd rs) ∙ join (p .0) (rates-joined rs (p .1))
+    let p = both (allAtMost highestRate (r .rates)) (every (λ q. allAtMost highestRate (q .rates)) rs) e in
+    all-append highestRate (r .rates) (endToEnd rs) ∙ join (p .0) (rates-joined rs (p .1))
 
 -- ---- a month's record
 record Month (m : ℕ) (r : Record) : Type 0 where
@@ -116,7 +116,7 @@ months-long (r ∷ rs) m e =
     length-append (r .rates) (endToEnd rs) ∙ ap₂ _+_ (month-facts m r (p .0) .long) (months-long rs (suc m) (p .1))
 
 -- the last month ends by the end of 2099
-months-inside : (f : Format) (rs : List Record) (m : ℕ) → every (formOfRecord f) rs ≡ true → monthsFrom m rs ≡ true → m ≤ 1200 → m + length rs ≤ 1200
+months-inside : (f : Format) (rs : List Record) (m : ℕ) → every (formOfRecord f) rs ≡ true → monthsFrom m rs ≡ true → m ≤ monthCount → m + length rs ≤ monthCount
 unfolding monthsFrom every
 months-inside f [] m g e h = omega arith
 months-inside f (r ∷ rs) m g e h =
@@ -143,7 +143,7 @@ record Known (f : Format) (id : List ℕ) (rs : List Record) : Type 0 where
   scheduled : isSchedule f ≡ true
   count : length rs ≡ countOf f
   form : every (formOfRecord f) rs ≡ true
-  rates : every (λ r. allAtMost 100 (r .rates)) rs ≡ true
+  rates : every (λ r. allAtMost highestRate (r .rates)) rs ≡ true
   checksums : every (λ r. eqb (value (r .checksum)) (checksumOf (r .start) (r .rates))) rs ≡ true
   plants : every (λ r. sameBytes (r .plant) id) rs ≡ true
   shared : sharedSchedule rs ≡ true

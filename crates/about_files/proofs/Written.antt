@@ -13,7 +13,7 @@ use Rattle.rules.specs.Digits.{allAtMost, digits, value, decimal, sameBytes}
 use Rattle.rules.specs.Calendar.{exists, monthAt, wholeMinute, halfHour, startSlot, monthCount, firstSlot}
 use Rattle.rules.specs.Plant.{plantId}
 use Rattle.rules.specs.Name.{Name, formatOf, lawfulName, segmentFits, encodeName}
-use Rattle.rules.specs.Body.{Record, schedule, countOf, mostRates, flagDigits, nextDigits, formOfRecord, every, isSchedule, formOfBody, encodeBody}
+use Rattle.rules.specs.Body.{Record, schedule, countOf, mostRates, flagDigits, nextDigits, formOfRecord, every, isSchedule, formOfBody, encodeBody, highestRate}
 use Rattle.rules.specs.File.{file, readFile, lawful, idFits, monthBegins, monthsFrom, firstMonth, updateDates, inTime, recordDates, datesHold, ratesHold, checksumsHold, plantsHold, checksumOf}
 use Rattle.rules.specs.Writer.{Fields, Output, refuse, bytes, fieldRecords, monthRecords, updateRecord, flagFits, nextFits, digitsFit, monthsFit, datesFit, writeBody}
 use Rattle.rules.specs.Table.{need}
@@ -39,7 +39,7 @@ pub record Fit (f : Format) (w : Fields) : Type 0 where
   pub scheduled : isSchedule f ≡ true
   pub digits : digitsFit f w ≡ true
   pub dates : datesFit f w ≡ true
-  pub rates : allAtMost 100 (w .rates) ≡ true
+  pub rates : allAtMost highestRate (w .rates) ≡ true
 
 -- a refusal is no body
 no-bytes : {X : Type 0} {c : Cause} {b : List ℕ} → refuse c ≡ bytes b → X
@@ -61,7 +61,7 @@ module _ (w : Fields) (room : ℕ) (f : Format) (g : formatOf (w .format) ≡ so
       let s₃ = passed (isSchedule f) Cause.Name _ b (rw g at (s₂ .1)) in
       let s₄ = passed (digitsFit f w) Cause.Form _ b (s₃ .1) in
       let s₅ = passed (datesFit f w) Cause.Date _ b (s₄ .1) in
-      let s₆ = passed (allAtMost 100 (w .rates)) Cause.Rate _ b (s₅ .1) in
+      let s₆ = passed (allAtMost highestRate (w .rates)) Cause.Rate _ b (s₅ .1) in
       let s₇ = passed (leb (length body) room) Cause.Buffer (bytes body) b (s₆ .1) in
       let made : bytes body ≡ bytes b = s₇ .1 in
       (record { plant = s₁ .0; flag = s₂ .0; scheduled = s₃ .0; digits = s₄ .0; dates = s₅ .0; rates = s₆ .0 }, cc)
@@ -75,7 +75,7 @@ pub record Good (f : Format) (w : Fields) (rs : List Record) : Type 0 where
   pub count : length rs ≡ countOf f
   pub form : every (formOfRecord f) rs ≡ true
   pub dates : (n : Name) → NameFor f w n → recordDates n f rs ≡ true
-  pub rates : every (λ r. allAtMost 100 (r .rates)) rs ≡ true
+  pub rates : every (λ r. allAtMost highestRate (r .rates)) rs ≡ true
   pub checksums : every (λ r. eqb (value (r .checksum)) (checksumOf (r .start) (r .rates))) rs ≡ true
   pub carried : Carries f w rs
 
@@ -102,7 +102,7 @@ module _ (f : Format) (w : Fields) (k : ℕ) (a : Fit f w) (months : monthsFit (
   record Months : Type 0 where
     date : exists (wholeMinute (w .start)) ≡ true
     begins : monthBegins (w .start) ≡ true
-    inside : m + suc k ≤ 1200
+    inside : m + suc k ≤ monthCount
     long : length (w .rates) ≡ slotsFrom (suc k) m
 
   months-facts : Months

@@ -6,8 +6,9 @@ use Prim.Native.Nat.{ℕ, _+_, _-_, _≤_, _<_}
 use native.Mathlib.Omega.{arith}
 use lib.Dec.{leb}
 use borrow.Author.Tests.{leb-true, le-leb, lt-ltb}
-use Rattle.rules.specs.Calendar.{firstSlot, slotsOfMonth, monthOfSlot, slotCount}
+use Rattle.rules.specs.Calendar.{firstSlot, slotsOfMonth, monthOfSlot, slotCount, monthCount}
 use Rattle.rules.specs.File.{File, recordsIn}
+use Rattle.rules.specs.Store.{blockCount}
 use Rattle.rules.specs.Machine.{Machine, rateOf, isHeld, heldCount, countBelow, withFile}
 use Rattle.calendar.proofs.Laws.{first-slot-step, slot-month-from, slot-month-until}
 use Rattle.pool.specs.Blocks.{freeCount}
@@ -45,36 +46,36 @@ module _ (st : Stored) (M : Machine) (a : Agrees st M) where
 
   -- ---- the free blocks
 
-  pub free-and-held : freeCount (st .pool) + heldCount M ≡ 16
+  pub free-and-held : freeCount (st .pool) + heldCount M ≡ blockCount
   unfolding heldCount
   free-and-held = count-view st (viewOf M) (agrees-shows st M a)
 
   -- the free blocks are those that the machine's months leave
-  pub free-blocks : freeCount (st .pool) ≡ 16 - heldCount M
+  pub free-blocks : freeCount (st .pool) ≡ blockCount - heldCount M
   free-blocks = omega (arith, free-and-held)
 
-  pub held-most : heldCount M ≤ 16
+  pub held-most : heldCount M ≤ blockCount
   held-most = omega (arith, free-and-held)
 
   -- ---- whether a file fits
 
   -- the months that the machine holds with the file are those that it held and those that have no block yet
-  held-with-file : (f : File) → GoodFile f
-      → heldCount (withFile f M) ≡ heldCount M + missing (st .pool) (M .floor) (runStart (recordsIn (f .body))) (runLength (recordsIn (f .body)))
+  held-with-file : (c : ℕ) (f : File) → GoodFile f
+      → heldCount (withFile c f M) ≡ heldCount M + missing (st .pool) (M .floor) (runStart (recordsIn (f .body))) (runLength (recordsIn (f .body)))
   unfolding heldCount
-  held-with-file f g =
+  held-with-file c f g =
       let rs = recordsIn (f .body) in
-      ap (λ (w : View). countBelow 1200 (w .held)) (view-file (runStart rs) f M (a .floor) g)
+      ap (λ (w : View). countBelow monthCount (w .held)) (view-file (runStart rs) c f M (a .floor) g)
       ∙ held-more (viewOf M) rs g
-      ∙ ap (λ (n : ℕ). countBelow 1200 (isHeld M) + n) (sym (missing-view (viewOf M) rs g (agrees-plain st M a) st (agrees-shows st M a)))
+      ∙ ap (λ (n : ℕ). countBelow monthCount (isHeld M) + n) (sym (missing-view (viewOf M) rs g (agrees-plain st M a) st (agrees-shows st M a)))
 
-  -- there are blocks for a file's months exactly where the machine holds at most sixteen with it
-  pub room : (f : File) → GoodFile f
-      → leb (missing (st .pool) (M .floor) (runStart (recordsIn (f .body))) (runLength (recordsIn (f .body)))) (freeCount (st .pool)) ≡ leb (heldCount (withFile f M)) 16
-  room f g = rw (held-with-file f g) (go (missing (st .pool) (M .floor) (runStart (recordsIn (f .body))) (runLength (recordsIn (f .body)))) (freeCount (st .pool)) (heldCount M) free-and-held)
+  -- there are blocks for a file's months exactly where the machine holds no more months than blocks with it
+  pub room : (c : ℕ) (f : File) → GoodFile f
+      → leb (missing (st .pool) (M .floor) (runStart (recordsIn (f .body))) (runLength (recordsIn (f .body)))) (freeCount (st .pool)) ≡ leb (heldCount (withFile c f M)) blockCount
+  room c f g = rw (held-with-file c f g) (go (missing (st .pool) (M .floor) (runStart (recordsIn (f .body))) (runLength (recordsIn (f .body)))) (freeCount (st .pool)) (heldCount M) free-and-held)
     where
-      go : (n c h : ℕ) → c + h ≡ 16 → leb n c ≡ leb (h + n) 16
-      go n c h e = same (λ q. le-leb (h + n) 16 (omega (arith, leb-true n c q))) (λ q. le-leb n c (omega (arith, leb-true (h + n) 16 q)))
+      go : (n c h : ℕ) → c + h ≡ blockCount → leb n c ≡ leb (h + n) blockCount
+      go n c h e = same (λ q. le-leb (h + n) blockCount (omega (arith, leb-true n c q))) (λ q. le-leb n c (omega (arith, leb-true (h + n) blockCount q)))
 
   -- ---- soundness
 

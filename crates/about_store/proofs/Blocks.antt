@@ -10,7 +10,7 @@ use lib.Dec.{ltb}
 use lib.ListN.{length, getD}
 use lib.Seq.{ext-getD}
 use borrow.Author.Tests.{eq-eqb}
-use Rattle.rules.specs.Store.{Held as HeldMonth, storeLength, blockOf, noRate, toByte, member, distinct, all, allBelow, soundMonths, soundBlocks, soundStore}
+use Rattle.rules.specs.Store.{Held as HeldMonth, storeLength, blockOf, noRate, toByte, member, distinct, all, allBelow, soundMonths, soundBlocks, soundStore, blockCount, blockLength}
 use Rattle.rules.specs.Machine.{Machine, isHeld}
 use Rattle.pool.specs.Blocks.{isFree, monthOf}
 use Rattle.pool.specs.Held.{InBlock, heldBelow, heldOf, soundPool}
@@ -42,16 +42,16 @@ module _ (st : Stored) (M : Machine) (a : Agrees st M) where
 
   -- the held months are the machine's
   pub months-held : (m : ℕ) → member m (map (λ h. h .month) (heldOf (st .pool))) ≡ isHeld M m
-  months-held m = ap (member m) (held-months 16 (st .pool)) ∙ member-held (st .pool) (M .floor) (a .sound) (isHeld M) (a .held) m
+  months-held m = ap (member m) (held-months blockCount (st .pool)) ∙ member-held (st .pool) (M .floor) (a .sound) (isHeld M) (a .held) m
 
   -- the bytes of a held month's block are the machine's rates of its slots, 255 where there is none and past the month's end
   pub block-bytes : (m b : ℕ) → InBlock (st .pool) m b → blockOf (st .store) b ≡ monthBytes M m
   block-bytes m b i =
-      ext-getD noRate (blockOf (st .store) b) (monthBytes M m) (long ∙ sym (bytes-length M m 0 1488))
-      (λ j l. let k : j < 1488 = rw long at l in
-      block-at (st .store) (a .full) b (i .below) j k ∙ a .bytes m b j i k ∙ sym (bytes-at M m 0 1488 j k ∙ ap (λ (n : ℕ). toByte (rateAt M m n)) (zero-add j)))
+      ext-getD noRate (blockOf (st .store) b) (monthBytes M m) (long ∙ sym (bytes-length M m 0 blockLength))
+      (λ j l. let k : j < blockLength = rw long at l in
+      block-at (st .store) (a .full) b (i .below) j k ∙ a .bytes m b j i k ∙ sym (bytes-at M m 0 blockLength j k ∙ ap (λ (n : ℕ). toByte (rateAt M m n)) (zero-add j)))
     where
-      long : length (blockOf (st .store) b) ≡ 1488
+      long : length (blockOf (st .store) b) ≡ blockLength
       long = block-length (st .store) (a .full) b (i .below)
 
   -- 'each held block's bytes are 0 to 100 or 255, and 255 past its month's end'
@@ -64,7 +64,7 @@ module _ (st : Stored) (M : Machine) (a : Agrees st M) where
 
   -- ---- all the held months' blocks
 
-  blocks-below : (k : ℕ) → k ≤ 16 → BlocksHave M (heldBelow k (st .pool)) (st .store)
+  blocks-below : (k : ℕ) → k ≤ blockCount → BlocksHave M (heldBelow k (st .pool)) (st .store)
   unfolding heldBelow
   blocks-below zero l = tt
   blocks-below (suc k) l = go (isFree (st .pool) k) refl (blocks-below k (omega arith))
@@ -75,7 +75,7 @@ module _ (st : Stored) (M : Machine) (a : Agrees st M) where
       go false e r = (block-bytes (monthOf (st .pool) k) k (record { below = l; used = e; month = refl }), r)
 
   pub all-bytes : BlocksHave M (heldOf (st .pool)) (st .store)
-  all-bytes = blocks-below 16 (omega arith)
+  all-bytes = blocks-below blockCount (omega arith)
 
   -- no two share a block
   pub apart : distinct (map (λ h. h .block) (heldOf (st .pool))) ≡ true
@@ -85,4 +85,4 @@ module _ (st : Stored) (M : Machine) (a : Agrees st M) where
       let months = map (λ (h : HeldMonth). h .month) (heldOf (st .pool)) in
       let blocks = map (λ (h : HeldMonth). h .block) (heldOf (st .pool)) in
       let e = and-right (soundMonths (M .floor) months) (soundBlocks free blocks) (facts-pool (st .pool) (M .floor) (a .sound)) in
-      and-left (distinct blocks) (all (λ b. ltb b 16) blocks) (and-left (distinct blocks && all (λ b. ltb b 16) blocks) (allBelow 16 (λ b. Bool·beq (free b) (not (member b blocks)))) e)
+      and-left (distinct blocks) (all (λ b. ltb b blockCount) blocks) (and-left (distinct blocks && all (λ b. ltb b blockCount) blocks) (allBelow blockCount (λ b. Bool·beq (free b) (not (member b blocks)))) e)

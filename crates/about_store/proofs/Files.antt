@@ -10,8 +10,8 @@ use lib.Dec.{leb, ltb}
 use lib.ListN.{length, getD}
 use borrow.Author.Tests.{leb-true, ltb-true, ltb-false, lt-ltb, le-ltb, le-leb, lt-leb}
 use Rattle.rules.specs.Digits.{allAtMost}
-use Rattle.rules.specs.Calendar.{firstSlot, slotsOfMonth, monthOfSlot}
-use Rattle.rules.specs.Body.{Record}
+use Rattle.rules.specs.Calendar.{firstSlot, slotsOfMonth, monthOfSlot, lastMonth, monthCount}
+use Rattle.rules.specs.Body.{Record, highestRate}
 use Rattle.rules.specs.File.{File, recordsIn, startOf}
 use Rattle.rules.specs.Machine.{Machine, covers, rateIn, orElse, lastRate, rateOf, touches, anyRecord, anyFile, isHeld}
 use Rattle.calendar.proofs.Laws.{first-slot-step, first-slot-end, first-slot-monotone, slot-month-is, slot-month-past}
@@ -67,18 +67,18 @@ before-none s t (r ∷ rs) g l =
 -- ---- a month's slots and the floor
 
 -- slot i of month m lies below the floor where the month does
-pub month-floor : (floor m i : ℕ) → floor ≤ 1199 → i < slotsOfMonth m → ltb (monthOfSlot (firstSlot m + i)) floor ≡ ltb m floor
-month-floor floor m i l k = go (ltb m 1200) refl
+pub month-floor : (floor m i : ℕ) → floor ≤ lastMonth → i < slotsOfMonth m → ltb (monthOfSlot (firstSlot m + i)) floor ≡ ltb m floor
+month-floor floor m i l k = go (ltb m monthCount) refl
   where
-    go : (t : Bool) → ltb m 1200 ≡ t → ltb (monthOfSlot (firstSlot m + i)) floor ≡ ltb m floor
-    go true e = rw (slot-month-is (firstSlot m + i) m (ltb-true m 1200 e) (omega arith) (omega (arith, first-slot-step m)))
+    go : (t : Bool) → ltb m monthCount ≡ t → ltb (monthOfSlot (firstSlot m + i)) floor ≡ ltb m floor
+    go true e = rw (slot-month-is (firstSlot m + i) m (ltb-true m monthCount e) (omega arith) (omega (arith, first-slot-step m)))
     go false e =
-        let past = ltb-false m 1200 e in
-        rw (slot-month-past (firstSlot m + i) (omega (arith, first-slot-end, first-slot-monotone 1200 m past)), le-ltb m floor (omega arith))
-        (le-ltb 1200 floor (omega arith))
+        let past = ltb-false m monthCount e in
+        rw (slot-month-past (firstSlot m + i) (omega (arith, first-slot-end, first-slot-monotone monthCount m past)), le-ltb m floor (omega arith))
+        (le-ltb monthCount floor (omega arith))
 
 -- rates below the floor are none
-module _ (M : Machine) (low : M .floor ≤ 1199) (m i : ℕ) where
+module _ (M : Machine) (low : M .floor ≤ lastMonth) (m i : ℕ) where
   pub rate-at : rateAt M m i ≡ cond (leb (M .floor) m && ltb i (slotsOfMonth m)) (lastRate (firstSlot m + i) (M .files) none) none
   unfolding rateAt rateOf
   rate-at = rw (← ltb-leb m (M .floor)) (go (ltb i (slotsOfMonth m)) refl)
@@ -114,11 +114,11 @@ at-most most [] j e = omega arith
 at-most most (r ∷ rs) zero e = leb-true r most (and-left (leb r most) (allAtMost most rs) e)
 at-most most (r ∷ rs) (suc j) e = at-most most rs j (and-right (leb r most) (allAtMost most rs) e)
 
-pub in-low : (s t : ℕ) (rs : List Record) → RunFrom t rs → (r : ℕ) → rateIn s rs ≡ some r → r ≤ 100
+pub in-low : (s t : ℕ) (rs : List Record) → RunFrom t rs → (r : ℕ) → rateIn s rs ≡ some r → r ≤ highestRate
 unfolding rateIn
 in-low s t [] g r e = let z : _≡_ {A = ℕ} 0 1 = cc in absurd (omega arith)
 in-low s t (x ∷ rs) g r e = go (covers s x) (in-low s (t + length (x .rates)) rs (g .2) r) e
   where
-    go : (c : Bool) → (rateIn s rs ≡ some r → r ≤ 100) → cond c (some (getD (x .rates) (s - startOf x) 0)) (rateIn s rs) ≡ some r → r ≤ 100
-    go true rest q = let w : getD (x .rates) (s - startOf x) 0 ≡ r = cc in omega (arith, at-most 100 (x .rates) (s - startOf x) (g .1 .rates))
+    go : (c : Bool) → (rateIn s rs ≡ some r → r ≤ highestRate) → cond c (some (getD (x .rates) (s - startOf x) 0)) (rateIn s rs) ≡ some r → r ≤ highestRate
+    go true rest q = let w : getD (x .rates) (s - startOf x) 0 ≡ r = cc in omega (arith, at-most highestRate (x .rates) (s - startOf x) (g .1 .rates))
     go false rest q = rest q

@@ -10,8 +10,9 @@ use lib.Dec.{eqb, ltb}
 use lib.ListN.{length, getD, set, length-set}
 use lib.Seq.{getD-set-same, getD-set-other}
 use borrow.Author.Tests.{eqb-true, eqb-false, eq-eqb, ltb-false}
+use Rattle.rules.specs.Calendar.{monthCount}
 use Rattle.rules.specs.Machine.{countBelow}
-use Rattle.rules.specs.Store.{Held as HeldMonth, member}
+use Rattle.rules.specs.Store.{Held as HeldMonth, member, blockCount}
 use Rattle.pool.specs.Blocks.{isFree, monthOf, freeCount, findOf, given, freeAfter, releaseOf}
 use Rattle.pool.specs.Held.{InBlock, Held, Sound, monthsBelow, heldMonths, heldBelow}
 use Rattle.pool.specs.declared.Pool.{Pool}
@@ -24,10 +25,10 @@ use Rattle.about_store.proofs.Counts.{count-same, count-list, member-me
 
 -- ---- a block given
 
-free-given : (p : Pool) (m b c : ℕ) → c < 16 → isFree (given p m b) c ≡ isFree p c && not (eqb c b)
-free-given p m b c h = bit-number 16 (λ c. isFree p c && not (eqb c b)) c h
+free-given : (p : Pool) (m b c : ℕ) → c < blockCount → isFree (given p m b) c ≡ isFree p c && not (eqb c b)
+free-given p m b c h = bit-number blockCount (λ c. isFree p c && not (eqb c b)) c h
 
-module _ (p : Pool) (m b : ℕ) (long : length (p .months) ≡ 16) (l : b < 16) where
+module _ (p : Pool) (m b : ℕ) (long : length (p .months) ≡ blockCount) (l : b < blockCount) where
   and-not : (x : Bool) → x && true ≡ false → x ≡ false
   and-not true e = e
   and-not false e = refl
@@ -49,7 +50,7 @@ module _ (p : Pool) (m b : ℕ) (long : length (p .months) ≡ 16) (l : b < 16) 
         },
       )
 
-module _ (p : Pool) (m b : ℕ) (long : length (p .months) ≡ 16) (l : b < 16) (free : isFree p b ≡ true) where
+module _ (p : Pool) (m b : ℕ) (long : length (p .months) ≡ blockCount) (l : b < blockCount) (free : isFree p b ≡ true) where
   pub given-new : InBlock (given p m b) m b
   given-new = record { below = l; used = free-given p m b b l ∙ rw (free, eq-eqb b b refl); month = getD-set-same (p .months) b m 0 (omega arith) }
 
@@ -63,8 +64,8 @@ module _ (p : Pool) (m b : ℕ) (long : length (p .months) ≡ 16) (l : b < 16) 
     };
   }
 
-pub given-bits : (p : Pool) (m b : ℕ) → given p m b .free < 2 ^ 16
-given-bits p m b = number-lt 16 (λ c. isFree p c && not (eqb c b))
+pub given-bits : (p : Pool) (m b : ℕ) → given p m b .free < 2 ^ blockCount
+given-bits p m b = number-lt blockCount (λ c. isFree p c && not (eqb c b))
 
 -- ---- blocks released
 
@@ -72,16 +73,16 @@ module _ (p : Pool) (floor : ℕ) where
   pub released-in : (x c : ℕ) → InBlock (releaseOf p floor) x c → InBlock p x c × (floor ≤ x)
   unfolding releaseOf
   released-in x c i =
-      let w = or-parts (isFree p c) (ltb (monthOf p c) floor) (sym (bit-number 16 (freeAfter p floor) c (i .below)) ∙ i .used) in
+      let w = or-parts (isFree p c) (ltb (monthOf p c) floor) (sym (bit-number blockCount (freeAfter p floor) c (i .below)) ∙ i .used) in
       (record { below = i .below; used = w .0; month = i .month }, rw (i .month) at (ltb-false (monthOf p c) floor (w .1)))
     where
       or-parts : (x y : Bool) → x || y ≡ false → (x ≡ false) × (y ≡ false)
       or-parts true y e = absurd (true≢false e)
       or-parts false y e = (refl, e)
 
-  pub released-bits : releaseOf p floor .free < 2 ^ 16
+  pub released-bits : releaseOf p floor .free < 2 ^ blockCount
   unfolding releaseOf
-  released-bits = number-lt 16 (freeAfter p floor)
+  released-bits = number-lt blockCount (freeAfter p floor)
 
   pub released-months : releaseOf p floor .months ≡ p .months
   unfolding releaseOf
@@ -123,11 +124,11 @@ module _ (p : Pool) (floor : ℕ) (s : Sound p floor) (test : ℕ → Bool) (is 
       same (λ e. is m .0 (months-held p m .0 (member-mem m (heldMonths p) e)))
       (λ e. mem-member m (heldMonths p) (months-held p m .1 (is m .1 e)))
 
-  -- the free blocks and the held months are sixteen
-  pub free-held : freeCount p + countBelow 1200 test ≡ 16
+  -- the free blocks and the held months are as many as the blocks
+  pub free-held : freeCount p + countBelow monthCount test ≡ blockCount
   free-held =
-      let few = months-few 16 p in
-      let all = count-list 1200 (heldMonths p) (months-once p floor 16 (omega arith) s)
+      let few = months-few blockCount p in
+      let all = count-list monthCount (heldMonths p) (months-once p floor blockCount (omega arith) s)
       (λ m d. let w = months-held p m .0 d in omega (arith, s .high m (w .0) (w .1))) in
-      let eq = count-same 1200 (λ m. member m (heldMonths p)) test (λ m l. member-held m) in
+      let eq = count-same monthCount (λ m. member m (heldMonths p)) test (λ m l. member-held m) in
       omega (arith, free-is p)

@@ -9,8 +9,8 @@ use lib.ListN.{length, take, drop, length-take, length-drop, take-append-drop}
 use lib.Seq.{drop-drop, drop-append-le, take-append-le}
 use borrow.Author.Tests.{eqb-true, ltb-true, leb-true, leb-false}
 use Rattle.rules.specs.Digits.{part, allAtMost, valueFrom, value, sameBytes}
-use Rattle.rules.specs.Calendar.{firstDay, daysOfMonth, firstSlot, slotsOfMonth, monthOfSlot, yearIn, monthIn, dayIn, hourIn, minuteIn, secondIn, monthAt, exists, secondsOf, wholeMinute}
-use Rattle.rules.specs.Body.{Record, every}
+use Rattle.rules.specs.Calendar.{firstDay, daysOfMonth, firstSlot, slotsOfMonth, monthOfSlot, yearIn, monthIn, dayIn, hourIn, minuteIn, secondIn, monthAt, exists, secondsOf, wholeMinute, slotLength, dayLength, slotsOfDay, monthCount, lastMonth, slotCount}
+use Rattle.rules.specs.Body.{Record, every, highestRate}
 use Rattle.rules.specs.File.{startOf, monthBegins, wholeMonth, monthsFrom}
 use Rattle.calendar.proofs.Laws.{first-slot-step, first-slot-end, first-slot-monotone, first-slot-rises, slot-month-first}
 use Rattle.calendar.proofs.DateLaws.{exists-below}
@@ -83,7 +83,7 @@ module _ (s : List ℕ) (e : monthBegins s ≡ true) where
   unfolding valueFrom
   minute-zero = ap value (behind 4 2)
 
-  month-slot : (m : ℕ) → exists (wholeMinute s) ≡ true → monthAt s ≡ m → secondsOf (wholeMinute s) / 1800 ≡ firstSlot m
+  month-slot : (m : ℕ) → exists (wholeMinute s) ≡ true → monthAt s ≡ m → secondsOf (wholeMinute s) / slotLength ≡ firstSlot m
   unfolding secondsOf
   month-slot m there is =
       let w = wholeMinute s in
@@ -91,7 +91,7 @@ module _ (s : List ℕ) (e : monthBegins s ≡ true) where
       let f : firstDay (monthAt w) ≡ firstDay m = ap firstDay (month-same ∙ is) in
       plain (firstDay (monthAt w)) (firstDay m) (dayIn w) (hourIn w) (minuteIn w) (secondIn w) f day-one hour-zero minute-zero sec
     where
-      plain : (F G d h i x : ℕ) → F ≡ G → d ≡ 1 → h ≡ 0 → i ≡ 0 → x < 60 → (86400 * (F + (d - 1)) + (3600 * h + 60 * i + x)) / 1800 ≡ 48 * G
+      plain : (F G d h i x : ℕ) → F ≡ G → d ≡ 1 → h ≡ 0 → i ≡ 0 → x < 60 → (dayLength * (F + (d - 1)) + (3600 * h + 60 * i + x)) / slotLength ≡ slotsOfDay * G
       plain F G d h i x a b c e l = rw (a, b, c, e) (omega arith)
 
 -- ---- whole months
@@ -99,7 +99,7 @@ module _ (s : List ℕ) (e : monthBegins s ≡ true) where
 pub record MonthFacts (m : ℕ) (r : Record) : Type 0 where
   pub start : startOf r ≡ firstSlot m
   pub count : length (r .rates) ≡ slotsOfMonth m
-  pub few : m < 1200
+  pub few : m < monthCount
 
 pub month-facts : (m : ℕ) (r : Record) → wholeMonth m r ≡ true → MonthFacts m r
 unfolding wholeMonth
@@ -115,31 +115,31 @@ month-facts m r e =
     record {
       start = at-month;
       count = eqb-true (length (r .rates)) (slotsOfMonth m) (and-right (t && is && one) n e);
-      few = below m (omega (arith, exists-below (wholeMinute (r .start)) there)) (leb m 1199) refl;
+      few = below m (omega (arith, exists-below (wholeMinute (r .start)) there)) (leb m lastMonth) refl;
     }
   where
-    below : (m : ℕ) → firstSlot m < 1753200 → (x : Bool) → leb m 1199 ≡ x → m < 1200
-    below m l true q = omega (arith, leb-true m 1199 q)
-    below m l false q = absurd (omega (arith, first-slot-end, first-slot-monotone 1200 m (leb-false m 1199 q)))
+    below : (m : ℕ) → firstSlot m < slotCount → (x : Bool) → leb m lastMonth ≡ x → m < monthCount
+    below m l true q = omega (arith, leb-true m lastMonth q)
+    below m l false q = absurd (omega (arith, first-slot-end, first-slot-monotone monthCount m (leb-false m lastMonth q)))
 
 -- '13 consecutive months, rising', or one month: their records are a run from the first month's first slot on
-pub months-run : (m : ℕ) (rs : List Record) → monthsFrom m rs ≡ true → every (λ r. allAtMost 100 (r .rates)) rs ≡ true → RunFrom (firstSlot m) rs
+pub months-run : (m : ℕ) (rs : List Record) → monthsFrom m rs ≡ true → every (λ r. allAtMost highestRate (r .rates)) rs ≡ true → RunFrom (firstSlot m) rs
 unfolding monthsFrom every
 months-run m [] e low = tt
 months-run m (r ∷ rs) e low =
     let w = month-facts m r (and-left (wholeMonth m r) (monthsFrom (suc m) rs) e) in
     let next = first-slot-step m in
-    let end = first-slot-monotone (suc m) 1200 (w .few) in
+    let end = first-slot-monotone (suc m) monthCount (w .few) in
     let last = first-slot-end in
     let is : monthOfSlot (startOf r) ≡ m = ap monthOfSlot (w .start) ∙ slot-month-first m (w .few) in
     let on : firstSlot m + length (r .rates) ≡ firstSlot (suc m) = omega (arith, w .count) in
-    let rest = months-run (suc m) rs (and-right (wholeMonth m r) (monthsFrom (suc m) rs) e) (and-right (allAtMost 100 (r .rates)) (every (λ r. allAtMost 100 (r .rates)) rs) low) in (
+    let rest = months-run (suc m) rs (and-right (wholeMonth m r) (monthsFrom (suc m) rs) e) (and-right (allAtMost highestRate (r .rates)) (every (λ r. allAtMost highestRate (r .rates)) rs) low) in (
       w .start,
       record {
         begins = omega (arith, w .start, first-slot-rises m);
         ends = omega (arith, w .start);
         near = rw is (omega (arith, w .start, first-slot-rises (suc m)));
-        rates = and-left (allAtMost 100 (r .rates)) (every (λ r. allAtMost 100 (r .rates)) rs) low;
+        rates = and-left (allAtMost highestRate (r .rates)) (every (λ r. allAtMost highestRate (r .rates)) rs) low;
       },
       subst (λ (s : ℕ). RunFrom s rs) (sym on) rest,
     )

@@ -10,6 +10,7 @@ use lib.ListN.{length, getD, take, drop, length-take, length-drop}
 use lib.Seq.{getD-take, getD-drop}
 use borrow.Author.Tests.{ltb-true, lt-ltb}
 use Rattle.rules.specs.Calendar.{firstSlot, slotsOfMonth}
+use Rattle.rules.specs.Store.{blockLength}
 use Rattle.calendar.proofs.Laws.{days-range, first-slot-step}
 use Rattle.schedule.specs.Stored.{Piece, pieceIn, meets}
 use Rattle.about_store.proofs.Bools.{and-left, and-right, same, between, is-between}
@@ -107,7 +108,7 @@ module _ (k s : ℕ) (rates : List ℕ) where
       (part-at rates (from - s) (until - from) (i - (from - firstSlot k)) (firstSlot k + i - s) (omega (arith, w .0, w .1)) (part-index (firstSlot k) s i (w .0)))
 
   -- a piece that has rates fits a block
-  pub piece-inside : meets k s (length rates) ≡ true → P .from + length (P .rates) ≤ 1488
+  pub piece-inside : meets k s (length rates) ≡ true → P .from + length (P .rates) ≤ blockLength
   piece-inside t =
       let size = part-size s (s + length rates) (firstSlot k) (firstSlot (suc k)) (ltb-true (max s (firstSlot k)) (min (s + length rates) (firstSlot (suc k))) t) in
       rw (piece-from, piece-length) (omega (arith, first-slot-step k, days-range k))

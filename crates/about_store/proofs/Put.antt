@@ -10,7 +10,8 @@ use lib.Dec.{leb, ltb, eqb}
 use lib.ListN.{length, getD}
 use lib.Seq.{sets, length-sets}
 use borrow.Author.Tests.{leb-true, eq-eqb, ne-eqb}
-use Rattle.rules.specs.Store.{noRate, toByte}
+use Rattle.rules.specs.Calendar.{lastMonth, monthCount}
+use Rattle.rules.specs.Store.{noRate, toByte, rateBytes, blockLength, blockCount}
 use Rattle.rules.specs.Machine.{countBelow}
 use Rattle.pool.specs.Blocks.{findOf}
 use Rattle.pool.specs.Held.{InBlock}
@@ -19,18 +20,18 @@ use Rattle.pool.specs.declared.Found.the-variants.{At, Nothing}
 use Rattle.pool.proofs.Laws.{find-at}
 use Rattle.schedule.specs.Stored.{Stored, Piece, place, openMonth, layBy, layPiece, putPiece}
 use Rattle.about_store.proofs.Bools.{and-left}
-use Rattle.about_store.proofs.Bytes.{write-there, write-here}
+use Rattle.about_store.proofs.Bytes.{laid-there, laid-here}
 use Rattle.about_store.proofs.View.{View, Shows, openView, layView, pieceCovers, pieceSays, open-shows, not-held}
 
 covers-not : (q : Piece) (k i : ℕ) → k ≢ q .month → pieceCovers k i q ≡ false
 covers-not q k i n = rw (ne-eqb k (q .month) n)
 
-byte-cond : (t : Bool) (r : ℕ) (o : Option ℕ) → cond t r (toByte o) ≡ toByte (cond t (some r) o)
+byte-cond : (t : Bool) (r : ℕ) (o : Option ℕ) → cond t (toByte (some r)) (toByte o) ≡ toByte (cond t (some r) o)
 byte-cond true r o = refl
 byte-cond false r o = refl
 
 -- a piece that fits a block is laid into its month's
-pub lay-shows : (st : Stored) (v : View) → Shows st v → (q : Piece) → q .from + length (q .rates) ≤ 1488 → v .held (q .month) ≡ true → Shows (layPiece q st) (layView q v)
+pub lay-shows : (st : Stored) (v : View) → Shows st v → (q : Piece) → q .from + length (q .rates) ≤ blockLength → v .held (q .month) ≡ true → Shows (layPiece q st) (layView q v)
 unfolding layPiece
 lay-shows st v h q fits e = go (findOf (st .pool) (q .month)) refl
   where
@@ -39,7 +40,7 @@ lay-shows st v h q fits e = go (findOf (st .pool) (q .month)) refl
     go (At b) f = record {
       months = h .months;
       bits = h .bits;
-      full = length-sets (st .store) (place b (q .from)) (q .rates) ∙ h .full;
+      full = length-sets (st .store) (place b (q .from)) (rateBytes (q .rates)) ∙ h .full;
       low = h .low;
       sound = h .sound;
       held = h .held;
@@ -50,14 +51,14 @@ lay-shows st v h q fits e = go (findOf (st .pool) (q .month)) refl
         in-b : InBlock (st .pool) (q .month) b
         in-b = find-at (st .pool) (q .month) b f
 
-        at-byte : (x c i : ℕ) → InBlock (st .pool) x c → i < 1488 → Dec (c ≡ b)
-            → getD (sets (st .store) (place b (q .from)) (q .rates)) (place c i) noRate ≡ toByte (cond (pieceCovers x i q) (pieceSays i q) (v .says x i))
+        at-byte : (x c i : ℕ) → InBlock (st .pool) x c → i < blockLength → Dec (c ≡ b)
+            → getD (sets (st .store) (place b (q .from)) (rateBytes (q .rates))) (place c i) noRate ≡ toByte (cond (pieceCovers x i q) (pieceSays i q) (v .says x i))
         at-byte x c i k j (yes y) =
             let m : x ≡ q .month = sym (k .month) ∙ ap (λ (z : ℕ). getD (st .pool .months) z 0) y ∙ in-b .month in
             rw (y, m, eq-eqb (q .month) (q .month) refl, ← byte-cond)
-            (write-here (st .store) (q .rates) b (q .from) i noRate 0 fits (omega (arith, h .full, in-b .below)) ∙ rw (h .bytes (q .month) b i in-b j))
+            (laid-here (st .store) (q .rates) b (q .from) i noRate fits (omega (arith, h .full, in-b .below)) ∙ rw (h .bytes (q .month) b i in-b j))
         at-byte x c i k j (no y) =
-            write-there (st .store) (q .rates) b (q .from) c i noRate y j fits
+            laid-there (st .store) (q .rates) b (q .from) c i noRate y j fits
             ∙ rw (covers-not q x i (λ z. y (h .sound .one (q .month) c b (rw z at k) in-b))) (h .bytes x c i k j)
 
 -- ---- a piece
@@ -78,15 +79,15 @@ putView q v = putAt (live (v .floor) q) q v
 
 -- a piece that fits a month's block
 pub record Fits (q : Piece) : Type 0 where
-  pub month : q .month ≤ 1199
-  pub inside : q .from + length (q .rates) ≤ 1488
+  pub month : q .month ≤ lastMonth
+  pub inside : q .from + length (q .rates) ≤ blockLength
 
-pub put-shows : (st : Stored) (v : View) → Shows st v → (q : Piece) → (live (v .floor) q ≡ true → Fits q) → countBelow 1200 (putView q v .held) ≤ 16
+pub put-shows : (st : Stored) (v : View) → Shows st v → (q : Piece) → (live (v .floor) q ≡ true → Fits q) → countBelow monthCount (putView q v .held) ≤ blockCount
     → Shows (putPiece (v .floor) q st) (putView q v)
 unfolding putPiece putAt
 put-shows st v h q fits few = go (live (v .floor) q) refl few
   where
-    go : (t : Bool) → live (v .floor) q ≡ t → countBelow 1200 (putAt t q v .held) ≤ 16 → Shows (cond t (layPiece q (openMonth (q .month) st)) st) (putAt t q v)
+    go : (t : Bool) → live (v .floor) q ≡ t → countBelow monthCount (putAt t q v .held) ≤ blockCount → Shows (cond t (layPiece q (openMonth (q .month) st)) st) (putAt t q v)
     go true e l =
         let ok = fits e in
         let from = leb-true (v .floor) (q .month) (and-left (leb (v .floor) (q .month)) (ltb 0 (length (q .rates))) e) in

@@ -8,9 +8,10 @@ use Prim.Native.Nat.{ℕ, _+_, _-_, _≤_}
 use native.Mathlib.Omega.{arith}
 use lib.Dec.{leb, ltb}
 use lib.ListN.{length, getD}
-use Rattle.rules.specs.Calendar.{firstSlot, slotsOfMonth}
+use Rattle.rules.specs.Calendar.{firstSlot, slotsOfMonth, lastMonth, monthCount}
 use Rattle.rules.specs.Body.{Record}
 use Rattle.rules.specs.File.{File, recordsIn, startOf}
+use Rattle.rules.specs.Store.{blockCount}
 use Rattle.rules.specs.Machine.{Machine, covers, rateIn, orElse, lastRate, touches, anyRecord, anyFile, isHeld, countBelow, withFile}
 use Rattle.schedule.specs.Stored.{Stored, putRun}
 use Rattle.about_store.specs.Agrees.{rateAt}
@@ -85,12 +86,12 @@ records-says t (r ∷ rs) g v k i =
 abbrev pub viewOf : Machine → View
 viewOf M = record { floor = M .floor; held = isHeld M; says = rateAt M }
 
-module _ (f : File) (M : Machine) where
-  pub floor-with : withFile f M .floor ≡ M .floor
+module _ (c : ℕ) (f : File) (M : Machine) where
+  pub floor-with : withFile c f M .floor ≡ M .floor
   unfolding withFile
   floor-with = refl
 
-  pub held-with : (k : ℕ) → isHeld (withFile f M) k ≡ (leb (M .floor) k && anyRecord k (recordsIn (f .body)) || isHeld M k)
+  pub held-with : (k : ℕ) → isHeld (withFile c f M) k ≡ (leb (M .floor) k && anyRecord k (recordsIn (f .body)) || isHeld M k)
   unfolding withFile isHeld
   held-with k = rw (any-more k (M .files) f) (table (leb (M .floor) k) (anyFile k (M .files)) (anyRecord k (recordsIn (f .body))))
     where
@@ -101,11 +102,11 @@ module _ (f : File) (M : Machine) where
       table true false false = refl
       table false x y = refl
 
-  says-with : M .floor ≤ 1199 → (k i : ℕ)
-      → rateAt (withFile f M) k i ≡ cond (leb (M .floor) k && ltb i (slotsOfMonth k)) (orElse (rateIn (firstSlot k + i) (recordsIn (f .body))) (rateAt M k i)) (rateAt M k i)
+  says-with : M .floor ≤ lastMonth → (k i : ℕ)
+      → rateAt (withFile c f M) k i ≡ cond (leb (M .floor) k && ltb i (slotsOfMonth k)) (orElse (rateIn (firstSlot k + i) (recordsIn (f .body))) (rateAt M k i)) (rateAt M k i)
   unfolding withFile
   says-with low k i =
-      rate-at (withFile f M) low k i
+      rate-at (withFile c f M) low k i
       ∙ rw (last-more (firstSlot k + i) (M .files) f none, rate-at M low k i)
       (go (leb (M .floor) k && ltb i (slotsOfMonth k)) (rateIn (firstSlot k + i) (recordsIn (f .body))) (lastRate (firstSlot k + i) (M .files) none))
     where
@@ -114,33 +115,33 @@ module _ (f : File) (M : Machine) where
       go false n o = refl
 
 -- a file taken, as the machine sees it, is its records put in order
-pub view-file : (t : ℕ) (f : File) (M : Machine) → M .floor ≤ 1199 → RunFrom t (recordsIn (f .body)) → viewOf (withFile f M) ≡ recordsView (recordsIn (f .body)) (viewOf M)
-view-file t f M low g = λ j. record { floor = same-floor j; held = λ k. same-held k j; says = λ k i. same-says k i j }
+pub view-file : (t c : ℕ) (f : File) (M : Machine) → M .floor ≤ lastMonth → RunFrom t (recordsIn (f .body)) → viewOf (withFile c f M) ≡ recordsView (recordsIn (f .body)) (viewOf M)
+view-file t c f M low g = λ j. record { floor = same-floor j; held = λ k. same-held k j; says = λ k i. same-says k i j }
   where
     rs : List Record
     rs = recordsIn (f .body)
 
-    same-floor : withFile f M .floor ≡ recordsView rs (viewOf M) .floor
-    same-floor = floor-with f M ∙ sym (records-floor rs (viewOf M))
+    same-floor : withFile c f M .floor ≡ recordsView rs (viewOf M) .floor
+    same-floor = floor-with c f M ∙ sym (records-floor rs (viewOf M))
 
-    same-held : (k : ℕ) → isHeld (withFile f M) k ≡ recordsView rs (viewOf M) .held k
-    same-held k = held-with f M k ∙ sym (records-held rs (viewOf M) k)
+    same-held : (k : ℕ) → isHeld (withFile c f M) k ≡ recordsView rs (viewOf M) .held k
+    same-held k = held-with c f M k ∙ sym (records-held rs (viewOf M) k)
 
-    same-says : (k i : ℕ) → rateAt (withFile f M) k i ≡ recordsView rs (viewOf M) .says k i
-    same-says k i = says-with f M low k i ∙ sym (records-says t rs g (viewOf M) k i)
+    same-says : (k i : ℕ) → rateAt (withFile c f M) k i ≡ recordsView rs (viewOf M) .says k i
+    same-says k i = says-with c f M low k i ∙ sym (records-says t rs g (viewOf M) k i)
 
 -- ---- pool and store
 
 record-more : (rs : List Record) (v : View) (k : ℕ) → v .held k ≡ true → recordsView rs v .held k ≡ true
 record-more rs v k e = records-held rs v k ∙ rw e (or-true (leb (v .floor) k && anyRecord k rs))
 
-pub records-shows : (t : ℕ) (rs : List Record) → RunFrom t rs → (st : Stored) (v : View) → Shows st v → countBelow 1200 (recordsView rs v .held) ≤ 16
+pub records-shows : (t : ℕ) (rs : List Record) → RunFrom t rs → (st : Stored) (v : View) → Shows st v → countBelow monthCount (recordsView rs v .held) ≤ blockCount
     → Shows (putRecords (v .floor) rs st) (recordsView rs v)
 unfolding recordsView putRecords runView
 records-shows t [] g st v h few = h
 records-shows t (r ∷ rs) g st v h few =
     let w = runView (startOf r) (r .rates) v in
     let ok = g .1 in
-    let fewer = count-le 1200 (w .held) (recordsView rs w .held) (record-more rs w) in
+    let fewer = count-le monthCount (w .held) (recordsView rs w .held) (record-more rs w) in
     let one = run-shows (startOf r) (r .rates) (ok .begins) (ok .ends) (ok .near) v st h (omega arith) in
     records-shows (t + length (r .rates)) rs (g .2) (putRun (v .floor) (startOf r) (r .rates) st) w one few

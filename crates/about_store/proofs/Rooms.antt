@@ -9,8 +9,8 @@ use native.Mathlib.Omega.{arith}
 use lib.Dec.{leb, ltb}
 use lib.ListN.{length}
 use borrow.Author.Tests.{ltb-false, le-ltb}
-use Rattle.rules.specs.Calendar.{firstSlot, slotsOfMonth}
-use Rattle.rules.specs.Body.{Record}
+use Rattle.rules.specs.Calendar.{firstSlot, slotsOfMonth, monthCount}
+use Rattle.rules.specs.Body.{Record, highestRate}
 use Rattle.rules.specs.Machine.{one, countBelow, anyRecord, rateIn, orElse}
 use Rattle.pool.specs.Blocks.{findOf}
 use Rattle.schedule.specs.Stored.{Stored, meets, isNothing, missing}
@@ -61,11 +61,11 @@ module _ (v : View) (rs : List Record) (run : RunFrom (runStart rs) rs) where
     ends = λ m i l. records-says (runStart rs) rs run v m i ∙ rw (le-ltb i (slotsOfMonth m) l) (end m i l (leb (v .floor) m));
   }
     where
-      new : (m i r : ℕ) (o : Option ℕ) → rateIn (firstSlot m + i) rs ≡ o → orElse o (v .says m i) ≡ some r → r ≤ 100
+      new : (m i r : ℕ) (o : Option ℕ) → rateIn (firstSlot m + i) rs ≡ o → orElse o (v .says m i) ≡ some r → r ≤ highestRate
       new m i r none q e = p .rates m i r e
       new m i r (some x) q e = in-low (firstSlot m + i) (runStart rs) rs run r (q ∙ e)
 
-      rate : (m i r : ℕ) (t : Bool) → cond t (orElse (rateIn (firstSlot m + i) rs) (v .says m i)) (v .says m i) ≡ some r → r ≤ 100
+      rate : (m i r : ℕ) (t : Bool) → cond t (orElse (rateIn (firstSlot m + i) rs) (v .says m i)) (v .says m i) ≡ some r → r ≤ highestRate
       rate m i r true e = new m i r (rateIn (firstSlot m + i) rs) refl e
       rate m i r false e = p .rates m i r e
 
@@ -75,20 +75,20 @@ module _ (v : View) (rs : List Record) (run : RunFrom (runStart rs) rs) where
 
   -- how many months of the run from floor on are not held
   unfoldable pub lacking : ℕ
-  lacking = countBelow 1200 (λ m. leb (v .floor) m && meets m (runStart rs) (runLength rs) && not (v .held m))
+  lacking = countBelow monthCount (λ m. leb (v .floor) m && meets m (runStart rs) (runLength rs) && not (v .held m))
 
   pub missing-view : Plain v → (st : Stored) → Shows st v → missing (st .pool) (v .floor) (runStart rs) (runLength rs) ≡ lacking
   unfolding missing lacking
   missing-view plain st h =
-      count-same 1200 (λ m. leb (v .floor) m && meets m (runStart rs) (runLength rs) && isNothing (findOf (st .pool) m))
+      count-same monthCount (λ m. leb (v .floor) m && meets m (runStart rs) (runLength rs) && isNothing (findOf (st .pool) m))
       (λ m. leb (v .floor) m && meets m (runStart rs) (runLength rs) && not (v .held m))
       (λ m l. ap (λ (t : Bool). leb (v .floor) m && meets m (runStart rs) (runLength rs) && t) (nothing-view v plain st h m))
 
   -- the months held afterwards
-  pub held-more : countBelow 1200 (recordsView rs v .held) ≡ countBelow 1200 (v .held) + lacking
+  pub held-more : countBelow monthCount (recordsView rs v .held) ≡ countBelow monthCount (v .held) + lacking
   unfolding lacking
   held-more =
-      count-add 1200 (v .held) (λ m. leb (v .floor) m && meets m (runStart rs) (runLength rs) && not (v .held m)) (recordsView rs v .held)
+      count-add monthCount (v .held) (λ m. leb (v .floor) m && meets m (runStart rs) (runLength rs) && not (v .held m)) (recordsView rs v .held)
       (λ m. rw (records-held rs v m, any-run m (runStart rs) rs run) (table (leb (v .floor) m) (meets m (runStart rs) (runLength rs)) (v .held m)))
     where
       table : (x y h : Bool) → one (x && y || h) ≡ one h + one (x && y && not h)

@@ -10,8 +10,8 @@ use native.Mathlib.Decide.{ℕ-discrete}
 use lib.Dec.{leb, ltb, eqb}
 use lib.ListN.{length}
 use borrow.Author.Tests.{ltb-true, ltb-false, lt-ltb, le-leb, leb-true, leb-false, eqb-true, eq-eqb, ne-eqb}
-use Rattle.rules.specs.Calendar.{firstSlot, monthOfSlot, slotCount}
-use Rattle.rules.specs.Store.{storeLength}
+use Rattle.rules.specs.Calendar.{firstSlot, monthOfSlot, slotCount, lastMonth, monthCount}
+use Rattle.rules.specs.Store.{storeLength, blockCount}
 use Rattle.rules.specs.Machine.{countBelow}
 use Rattle.calendar.proofs.Laws.{first-slot-step, first-slot-end, first-slot-monotone, slot-month-from}
 use Rattle.schedule.specs.Stored.{Stored, Piece, pieceIn, putPiece, meets, canPut, putRun}
@@ -140,23 +140,23 @@ module _ (s : ℕ) (rates : List ℕ) (begins : s < slotCount) (ends : s + lengt
         let t = and-right (leb (v .floor) k) (meets k s (length rates)) (sym (piece-live (v .floor) k s rates) ∙ e) in
         let o = meet-facts s (firstSlot k) (s + length rates) (firstSlot (suc k)) t in
         record {
-          month = rw (piece-month k s rates) (go k (o .yz) (leb k 1199) refl);
+          month = rw (piece-month k s rates) (go k (o .yz) (leb k lastMonth) refl);
           inside = piece-inside k s rates t;
         }
       where
-        go : (k : ℕ) → firstSlot k < s + length rates → (x : Bool) → leb k 1199 ≡ x → k ≤ 1199
-        go k l true e = leb-true k 1199 e
-        go k l false e = absurd (omega (arith, first-slot-monotone 1200 k (leb-false k 1199 e), first-slot-end))
+        go : (k : ℕ) → firstSlot k < s + length rates → (x : Bool) → leb k lastMonth ≡ x → k ≤ lastMonth
+        go k l true e = leb-true k lastMonth e
+        go k l false e = absurd (omega (arith, first-slot-monotone monthCount k (leb-false k lastMonth e), first-slot-end))
 
     first-less : (k : ℕ) → putView first v .held k ≡ true → runView s rates v .held k ≡ true
     unfolding putAt
     first-less k e = sym (same-held k) ∙ rw e (or-true (live (v .floor) second && eqb k (second .month)))
 
     -- a run of rates put
-    pub run-shows : (st : Stored) → Shows st v → countBelow 1200 (runView s rates v .held) ≤ 16 → Shows (putRun (v .floor) s rates st) (runView s rates v)
+    pub run-shows : (st : Stored) → Shows st v → countBelow monthCount (runView s rates v .held) ≤ blockCount → Shows (putRun (v .floor) s rates st) (runView s rates v)
     unfolding putRun canPut putAt
     run-shows st h few =
-        let one = put-shows st v h first (piece-fits m) (omega (arith, count-le 1200 (putView first v .held) (runView s rates v .held) first-less)) in
-        let two = put-shows (putPiece (v .floor) first st) (putView first v) one second (piece-fits (suc m)) (subst (λ (w : View). countBelow 1200 (w .held) ≤ 16) (sym two-pieces) few) in
+        let one = put-shows st v h first (piece-fits m) (omega (arith, count-le monthCount (putView first v .held) (runView s rates v .held) first-less)) in
+        let two = put-shows (putPiece (v .floor) first st) (putView first v) one second (piece-fits (suc m)) (subst (λ (w : View). countBelow monthCount (w .held) ≤ blockCount) (sym two-pieces) few) in
         rw (eq-eqb (length (st .store)) storeLength (h .full), le-leb (s + length rates) slotCount ends, le-leb (s + length rates) (firstSlot (suc (suc m))) near)
         (subst (λ (w : View). Shows (putPiece (v .floor) second (putPiece (v .floor) first st)) w) two-pieces two)

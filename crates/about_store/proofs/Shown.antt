@@ -1,7 +1,7 @@
 -- What every pool and store with one view have in common, and what releasing blocks does to the view: no list of files is seen here. Assumes nothing.
 use mathlib.Core.Path.{_≡_, refl, sym, ap, _∙_}
 use mathlib.Core.Logic.{_↔_}
-use mathlib.Core.Bool.{Bool, true, false, cond, not, _&&_, _||_}
+use mathlib.Core.Bool.{Bool, true, false, cond, not, _&&_}
 use mathlib.Core.List.{List, [], _∷_}
 use mathlib.Core.Option.{Option, none, some}
 use Prim.Native.Nat.{ℕ, zero, suc, _+_, _-_, _*_, _≤_, _<_, min}
@@ -10,8 +10,9 @@ use lib.Dec.{leb, eqb}
 use lib.ListN.{length, getD, take, drop, length-take, length-drop}
 use lib.Seq.{getD-take, getD-drop, ext-getD}
 use borrow.Author.Tests.{le-leb, leb-true, ne-eqb}
-use Rattle.rules.specs.Calendar.{firstSlot, slotsOfMonth, monthOfSlot, slotCount}
-use Rattle.rules.specs.Store.{storeLength, blockOf, noRate, toByte, fromByte, all, soundBlock, soundStore}
+use Rattle.rules.specs.Calendar.{firstSlot, slotsOfMonth, monthOfSlot, slotCount, monthCount, lastMonth}
+use Rattle.rules.specs.Body.{highestRate}
+use Rattle.rules.specs.Store.{storeLength, blockOf, noRate, toByte, fromByte, all, soundBlock, soundStore, blockCount, blockLength, lawfulByte}
 use Rattle.rules.specs.Machine.{countBelow}
 use Rattle.calendar.proofs.Laws.{days-range, first-slot-step, slot-month-from, slot-month-until}
 use Rattle.pool.specs.Blocks.{isFree, monthOf, freeCount, findOf, releaseOf}
@@ -26,28 +27,28 @@ use Rattle.about_store.proofs.View.{View, Shows, count-view, not-held}
 
 -- rates are 0 to 100, and a month has none past its end
 pub record Plain (v : View) : Type 0 where
-  pub rates : (m i r : ℕ) → v .says m i ≡ some r → r ≤ 100
+  pub rates : (m i r : ℕ) → v .says m i ≡ some r → r ≤ highestRate
   pub ends : (m i : ℕ) → slotsOfMonth m ≤ i → v .says m i ≡ none
 
 -- ---- a byte reads back
 
-low-back : (r : ℕ) → r ≤ 100 → fromByte r ≡ some r
+low-back : (r : ℕ) → r ≤ highestRate → fromByte (toByte (some r)) ≡ some r
 unfolding fromByte
-low-back r l = rw (ne-eqb r 255 (λ e. omega arith))
+low-back r l = rw (ne-eqb r noRate (λ e. omega arith))
 
-byte-back : (o : Option ℕ) → ((r : ℕ) → o ≡ some r → r ≤ 100) → fromByte (toByte o) ≡ o
+byte-back : (o : Option ℕ) → ((r : ℕ) → o ≡ some r → r ≤ highestRate) → fromByte (toByte o) ≡ o
 unfolding fromByte
 byte-back none h = refl
 byte-back (some r) h = low-back r (h r refl)
 
 -- ---- a block of the store
 
-module _ (store : List ℕ) (full : length store ≡ storeLength) (b : ℕ) (l : b < 16) where
-  pub block-length : length (blockOf store b) ≡ 1488
-  block-length = length-take 1488 (drop (b * 1488) store) ∙ rw (length-drop (b * 1488) store) (omega arith)
+module _ (store : List ℕ) (full : length store ≡ storeLength) (b : ℕ) (l : b < blockCount) where
+  pub block-length : length (blockOf store b) ≡ blockLength
+  block-length = length-take blockLength (drop (b * blockLength) store) ∙ rw (length-drop (b * blockLength) store) (omega arith)
 
-  pub block-at : (i : ℕ) → i < 1488 → getD (blockOf store b) i noRate ≡ getD store (place b i) noRate
-  block-at i k = getD-take 1488 (drop (b * 1488) store) i noRate k ∙ getD-drop (b * 1488) store i noRate
+  pub block-at : (i : ℕ) → i < blockLength → getD (blockOf store b) i noRate ≡ getD store (place b i) noRate
+  block-at i k = getD-take blockLength (drop (b * blockLength) store) i noRate k ∙ getD-drop (b * blockLength) store i noRate
 
 -- a test that each element passes
 all-at : (t : ℕ → Bool) (d : ℕ) (l : List ℕ) → ((i : ℕ) → i < length l → t (getD l i d) ≡ true) → all t l ≡ true
@@ -67,14 +68,14 @@ module _ (v : View) (plain : Plain v) where
         m : ℕ
         m = monthOfSlot s
 
-        until : s - firstSlot m < 1488
+        until : s - firstSlot m < blockLength
         until = omega (arith, slot-month-from s l, slot-month-until s l, first-slot-step m, days-range m)
 
         go : (o : Found) → findOf (st .pool) m ≡ o → rateFound o (st .store) (s - firstSlot m) ≡ v .says m (s - firstSlot m)
         go (At b) e = ap fromByte (h .bytes m b (s - firstSlot m) (find-at (st .pool) m b e) until) ∙ byte-back _ (plain .rates m (s - firstSlot m))
         go Nothing e = sym (h .silent m (s - firstSlot m) (not-held st v h m e))
 
-    pub free-view : freeCount (st .pool) ≡ 16 - countBelow 1200 (v .held)
+    pub free-view : freeCount (st .pool) ≡ blockCount - countBelow monthCount (v .held)
     free-view = omega (arith, count-view st v h)
 
     pub nothing-view : (m : ℕ) → isNothing (findOf (st .pool) m) ≡ not (v .held m)
@@ -86,24 +87,24 @@ module _ (v : View) (plain : Plain v) where
 
     -- ---- the store is sound
 
-    low-byte : (o : Option ℕ) → ((r : ℕ) → o ≡ some r → r ≤ 100) → leb (toByte o) 100 || eqb (toByte o) noRate ≡ true
+    low-byte : (o : Option ℕ) → ((r : ℕ) → o ≡ some r → r ≤ highestRate) → lawfulByte (toByte o) ≡ true
     low-byte none k = refl
-    low-byte (some r) k = rw (le-leb r 100 (k r refl))
+    low-byte (some r) k = rw (le-leb r highestRate (k r refl))
 
     block-sound : (m b : ℕ) → InBlock (st .pool) m b → soundBlock m (blockOf (st .store) b) ≡ true
     unfolding soundBlock
     block-sound m b i = go (blockOf (st .store) b) (block-length (st .store) (h .full) b (i .below)) byte
       where
-        byte : (j : ℕ) → j < 1488 → getD (blockOf (st .store) b) j noRate ≡ toByte (v .says m j)
+        byte : (j : ℕ) → j < blockLength → getD (blockOf (st .store) b) j noRate ≡ toByte (v .says m j)
         byte j l = block-at (st .store) (h .full) b (i .below) j l ∙ h .bytes m b j i l
 
         n : ℕ
         n = slotsOfMonth m
 
-        go : (xs : List ℕ) → length xs ≡ 1488 → ((j : ℕ) → j < 1488 → getD xs j noRate ≡ toByte (v .says m j))
-            → all (λ x. leb x 100 || eqb x noRate) (take n xs) && all (λ x. eqb x noRate) (drop n xs) ≡ true
+        go : (xs : List ℕ) → length xs ≡ blockLength → ((j : ℕ) → j < blockLength → getD xs j noRate ≡ toByte (v .says m j))
+            → all lawfulByte (take n xs) && all (λ x. eqb x noRate) (drop n xs) ≡ true
         go xs long is =
-            rw (all-at (λ x. leb x 100 || eqb x noRate) noRate (take n xs)
+            rw (all-at lawfulByte noRate (take n xs)
             (λ j l.
             let k : j < min n (length xs) = rw (length-take n xs) at l in
             rw (getD-take n xs j noRate (omega arith), is j (omega arith)) (low-byte (v .says m j) (plain .rates m j))))
@@ -112,7 +113,7 @@ module _ (v : View) (plain : Plain v) where
             let k : j < length xs - n = rw (length-drop n xs) at l in
             rw (getD-drop n xs j noRate, is (n + j) (omega arith), plain .ends m (n + j) (omega arith))))
 
-    blocks-sound : (k : ℕ) → k ≤ 16 → soundStore (heldBelow k (st .pool)) (st .store) ≡ true
+    blocks-sound : (k : ℕ) → k ≤ blockCount → soundStore (heldBelow k (st .pool)) (st .store) ≡ true
     unfolding heldBelow soundStore
     blocks-sound zero l = refl
     blocks-sound (suc k) l = go (isFree (st .pool) k) refl (blocks-sound k (omega arith))
@@ -123,7 +124,7 @@ module _ (v : View) (plain : Plain v) where
         go false e r = rw (block-sound (monthOf (st .pool) k) k (record { below = l; used = e; month = refl })) r
 
     pub store-view : soundStore (heldOf (st .pool)) (st .store) ≡ true
-    store-view = blocks-sound 16 (omega arith)
+    store-view = blocks-sound blockCount (omega arith)
 
 -- two pools and stores with one view hold the same months, with the same bytes
 module _ (v : View) (st u : Stored) (h : Shows st v) (k : Shows u v) where
@@ -133,10 +134,10 @@ module _ (v : View) (st u : Stored) (h : Shows st v) (k : Shows u v) where
   pub bytes-same : (m a b : ℕ) → InBlock (st .pool) m a → InBlock (u .pool) m b → blockOf (st .store) a ≡ blockOf (u .store) b
   bytes-same m a b i j =
       ext-getD noRate (blockOf (st .store) a) (blockOf (u .store) b) (long ∙ sym (block-length (u .store) (k .full) b (j .below)))
-      (λ n l. let w : n < 1488 = rw long at l in
+      (λ n l. let w : n < blockLength = rw long at l in
       block-at (st .store) (h .full) a (i .below) n w ∙ h .bytes m a n i w ∙ sym (block-at (u .store) (k .full) b (j .below) n w ∙ k .bytes m b n j w))
     where
-      long : length (blockOf (st .store) a) ≡ 1488
+      long : length (blockOf (st .store) a) ≡ blockLength
       long = block-length (st .store) (h .full) a (i .below)
 
 -- ---- blocks released
@@ -152,7 +153,7 @@ module _ (f : ℕ) (v : View) where
     ends = λ m i l. end m i l (leb f m);
   }
     where
-      rate : (m i r : ℕ) (t : Bool) → cond t (v .says m i) none ≡ some r → r ≤ 100
+      rate : (m i r : ℕ) (t : Bool) → cond t (v .says m i) none ≡ some r → r ≤ highestRate
       rate m i r true e = p .rates m i r e
       rate m i r false e = let z : _≡_ {A = ℕ} 0 1 = cc in absurd (omega arith)
 
@@ -160,7 +161,7 @@ module _ (f : ℕ) (v : View) where
       end m i l true = p .ends m i l
       end m i l false = refl
 
-  pub release-shows : (st : Stored) → Shows st v → f ≤ 1199 → Shows (record { pool = releaseOf (st .pool) f; store = st .store }) (releaseView f v)
+  pub release-shows : (st : Stored) → Shows st v → f ≤ lastMonth → Shows (record { pool = releaseOf (st .pool) f; store = st .store }) (releaseView f v)
   release-shows st h low = record {
     months = ap (λ (l : List ℕ). length l) (released-months (st .pool) f) ∙ h .months;
     bits = released-bits (st .pool) f;

@@ -8,11 +8,13 @@ use Prim.Native.Nat.{ℕ, _+_, _≤_, _<_}
 use native.Mathlib.Omega.{arith}
 use lib.Dec.{leb, ltb, lit<}
 use borrow.Author.Tests.{leb-true, le-leb, le-ltb, ltb-false}
-use Rattle.rules.specs.Calendar.{firstSlot, slotsOfMonth, monthOfSlot}
+use Rattle.rules.specs.Calendar.{firstSlot, slotsOfMonth, monthOfSlot, lastMonth, monthCount}
+use Rattle.rules.specs.Body.{highestRate}
 use Rattle.rules.specs.File.{File, recordsIn}
+use Rattle.rules.specs.Store.{blockCount}
 use Rattle.rules.specs.Machine.{Machine, freshMachine, rateIn, orElse, lastRate, rateOf, anyFile, isHeld, heldCount, countBelow, withFile}
 use Rattle.pool.specs.Below.{allBelow, bit}
-use Rattle.pool.specs.Blocks.{releaseOf}
+use Rattle.pool.specs.Blocks.{releaseOf, allFree}
 use Rattle.pool.specs.Held.{InBlock}
 use Rattle.pool.proofs.BelowLaws.{all-at}
 use Rattle.schedule.specs.Stored.{Stored}
@@ -39,7 +41,7 @@ agrees-shows st M a = record {
   silent = λ m i e. rate-none M (a .floor) m i e;
 }
 
-pub shows-agrees : (st : Stored) (M : Machine) → Shows st (viewOf M) → ((s r : ℕ) → rateOf M s ≡ some r → r ≤ 100) → Agrees st M
+pub shows-agrees : (st : Stored) (M : Machine) → Shows st (viewOf M) → ((s r : ℕ) → rateOf M s ≡ some r → r ≤ highestRate) → Agrees st M
 shows-agrees st M h low = record {
   months = h .months;
   bits = h .bits;
@@ -55,7 +57,7 @@ pub agrees-plain : (st : Stored) (M : Machine) → Agrees st M → Plain (viewOf
 unfolding rateAt
 agrees-plain st M a = record { rates = λ m i r e. rate m i r (ltb i (slotsOfMonth m)) e; ends = λ m i l. rw (le-ltb i (slotsOfMonth m) l) }
   where
-    rate : (m i r : ℕ) (t : Bool) → cond t (rateOf M (firstSlot m + i)) none ≡ some r → r ≤ 100
+    rate : (m i r : ℕ) (t : Bool) → cond t (rateOf M (firstSlot m + i)) none ≡ some r → r ≤ highestRate
     rate m i r true e = a .rates (firstSlot m + i) r e
     rate m i r false e = let z : _≡_ {A = ℕ} 0 1 = cc in absurd (omega arith)
 
@@ -74,8 +76,8 @@ fresh p store long all full = record {
   rates = λ s r e. absurd (nothing (ltb (monthOfSlot s) 0) r e);
 }
   where
-    free : (b : ℕ) → b < 16 → bit 65535 b ≡ true
-    free b l = unfold allBelow in all-at 16 (bit 65535) refl b l
+    free : (b : ℕ) → b < blockCount → bit allFree b ≡ true
+    free b l = unfold allBelow in all-at blockCount (bit allFree) refl b l
 
     none-used : (m b : ℕ) → InBlock p m b → ⊥
     none-used m b i = true≢false (sym (free b (i .below)) ∙ sym (ap (λ (n : ℕ). bit n b) all) ∙ i .used)
@@ -99,7 +101,7 @@ older-rate M N ee up s r e =
     rw (le-ltb (monthOfSlot s) (M .floor) (omega arith), ← ee) (w .1)
 
 -- a later floor, as the machine sees it, is blocks released
-view-release : (M N : Machine) (f : ℕ) → N .floor ≡ f → N .files ≡ M .files → M .floor ≤ f → f ≤ 1199 → viewOf N ≡ releaseView f (viewOf M)
+view-release : (M N : Machine) (f : ℕ) → N .floor ≡ f → N .files ≡ M .files → M .floor ≤ f → f ≤ lastMonth → viewOf N ≡ releaseView f (viewOf M)
 unfolding isHeld
 view-release M N f ef ee up low = λ j. record { floor = ef j; held = λ m. same-held m j; says = λ m i. same-says m i j }
   where
@@ -140,23 +142,23 @@ same-files st M N ef ee a = record {
 -- ---- a file put
 
 -- no rate of a file that can be put is above 100
-low-with : (M : Machine) (f : File) → GoodFile f → ((s r : ℕ) → rateOf M s ≡ some r → r ≤ 100) → (s r : ℕ) → rateOf (withFile f M) s ≡ some r → r ≤ 100
+low-with : (c : ℕ) (M : Machine) (f : File) → GoodFile f → ((s r : ℕ) → rateOf M s ≡ some r → r ≤ highestRate) → (s r : ℕ) → rateOf (withFile c f M) s ≡ some r → r ≤ highestRate
 unfolding rateOf withFile
-low-with M f g low s r e =
+low-with c M f g low s r e =
     let rs = recordsIn (f .body) in
     let w = cond-some (ltb (monthOfSlot s) (M .floor)) (lastRate s (M .files ++ (f ∷ [])) none) r e in
     go (rateIn s rs) refl (sym (last-more s (M .files) f none) ∙ w .1) (w .0)
   where
-    go : (o : Option ℕ) → rateIn s (recordsIn (f .body)) ≡ o → orElse o (lastRate s (M .files) none) ≡ some r → ltb (monthOfSlot s) (M .floor) ≡ false → r ≤ 100
+    go : (o : Option ℕ) → rateIn s (recordsIn (f .body)) ≡ o → orElse o (lastRate s (M .files) none) ≡ some r → ltb (monthOfSlot s) (M .floor) ≡ false → r ≤ highestRate
     go none q x t = low s r (rw t x)
     go (some y) q x t = in-low s (runStart (recordsIn (f .body))) (recordsIn (f .body)) g r (q ∙ x)
 
 pub put : PutAgrees
 unfolding heldCount
-put st M f g few a =
+put st M c f g few a =
     let rs = recordsIn (f .body) in
-    let v = view-file (runStart rs) f M (a .floor) g in
-    shows-agrees (putRecords (M .floor) rs st) (withFile f M)
+    let v = view-file (runStart rs) c f M (a .floor) g in
+    shows-agrees (putRecords (M .floor) rs st) (withFile c f M)
     (subst (λ (w : View). Shows (putRecords (M .floor) rs st) w) (sym v)
-    (records-shows (runStart rs) rs g st (viewOf M) (agrees-shows st M a) (subst (λ (w : View). countBelow 1200 (w .held) ≤ 16) v few)))
-    (low-with M f g (a .rates))
+    (records-shows (runStart rs) rs g st (viewOf M) (agrees-shows st M a) (subst (λ (w : View). countBelow monthCount (w .held) ≤ blockCount) v few)))
+    (low-with c M f g (a .rates))

@@ -11,7 +11,7 @@ use borrow.Author.Tests.{leb-true}
 use Rattle.rules.specs.Digits.{part, allDigits, allAtMost, digits}
 use Rattle.rules.specs.Calendar.{firstSlot, monthOfSlot, slotCount, exists, secondsOf, slotOf, wholeMinute, halfHour, startSlot}
 use Rattle.rules.specs.Name.{Name, parseName, segmentMonth}
-use Rattle.rules.specs.Body.{Record, Body, schedule, registration, before, ratesOf, sizeOf, tailDigits, recordShape, recordAt, parseRecords, counted, parseBody, every, isSchedule}
+use Rattle.rules.specs.Body.{Record, Body, schedule, registration, before, ratesOf, sizeOf, tailDigits, recordShape, recordAt, parseRecords, counted, parseBody, every, isSchedule, highestRate}
 use Rattle.rules.specs.File.{File, idFits, startOf, firstMonth, inTime, updateDates, recordDates, datesHold, ratesHold, checksumsHold, plantsHold, Outcome, refuse, file, stages, withBody, withName, readFile, isRegistration, takeFile, recordsIn}
 use Rattle.rules.specs.Table.{need}
 use Rattle.rules.specs.declared.Cause.{Cause}
@@ -39,7 +39,7 @@ start-is s k e = go (digits 12 s && exists (wholeMinute s) && halfHour s) (slotO
     go true x q = cc
     go false x q = let z : _≡_ {A = ℕ} 0 1 = cc in absurd (omega arith)
 
-update-good : (r : Record) → updateDates r ≡ true → length (r .rates) ≤ 336 → allAtMost 100 (r .rates) ≡ true → GoodRecord r
+update-good : (r : Record) → updateDates r ≡ true → length (r .rates) ≤ 336 → allAtMost highestRate (r .rates) ≡ true → GoodRecord r
 unfolding updateDates
 update-good r e few low = go (startSlot (r .start)) refl (and-left (inTime (length (r .rates)) (startSlot (r .start))) (exists (r .next)) e)
   where
@@ -94,7 +94,7 @@ update-body body rs e = go (counted F203 body) (parseRecords F203 1 (drop 6 body
 -- ---- the stages
 
 abbrev lowRates : List Record → Bool
-lowRates rs = every (λ r. allAtMost 100 (r .rates)) rs
+lowRates rs = every (λ r. allAtMost highestRate (r .rates)) rs
 
 schedule-run : (n : Name) (body : List ℕ) (rs : List Record) → parseBody (n .format) body ≡ some (schedule rs)
     → recordDates n (n .format) rs ≡ true → lowRates rs ≡ true → not (isRegistration (some n)) ≡ true → RunFrom (runStart rs) rs
@@ -105,7 +105,7 @@ schedule-run n body rs parsed dates low not-301 = go (n .format) parsed dates no
         let r = one .first in
         let d₁ : every updateDates (r ∷ []) ≡ true = rw (one .only) at d in
         let l₁ : lowRates (r ∷ []) ≡ true = rw (one .only) at l in
-        rw (one .only) (refl, update-good r (first-of updateDates r d₁) (one .few) (first-of (λ r. allAtMost 100 (r .rates)) r l₁), tt)
+        rw (one .only) (refl, update-good r (first-of updateDates r d₁) (one .few) (first-of (λ r. allAtMost highestRate (r .rates)) r l₁), tt)
       where
         first-of : (p : Record → Bool) (r : Record) → every p (r ∷ []) ≡ true → p r ≡ true
         first-of p r e = unfold every in and-left (p r) true e

@@ -11,7 +11,7 @@ use lib.ListN.{length, getD}
 use lib.Seq.{length-sets}
 use borrow.Author.Tests.{leb-true}
 use Rattle.rules.specs.Calendar.{monthOfSlot}
-use Rattle.rules.specs.Store.{noRate}
+use Rattle.rules.specs.Store.{noRate, rateBytes, blockCount, blockLength}
 use Rattle.rules.specs.File.{startOf}
 use Rattle.rules.specs.Machine.{touches, anyRecord}
 use Rattle.pool.specs.Blocks.{isFree, freeCount, findOf, given}
@@ -27,7 +27,7 @@ use Rattle.about_store.specs.Run.{putRecords}
 use Rattle.about_store.specs.Untouched.{Keeps, Untouched}
 use Rattle.about_store.specs.Laws.{RunUntouched, RecordsUntouched}
 use Rattle.about_store.proofs.Bools.{and-left, and-right, or-true}
-use Rattle.about_store.proofs.Bytes.{write-there, length-blank}
+use Rattle.about_store.proofs.Bytes.{write-there, laid-there, length-blank}
 use Rattle.about_store.proofs.Given.{given-new, given-keeps}
 use Rattle.about_store.proofs.Put.{live}
 use Rattle.about_store.proofs.Pieces.{piece-month, piece-inside}
@@ -35,7 +35,7 @@ use Rattle.about_store.proofs.Runs.{piece-live}
 
 -- ---- steps
 
-keeps-same : (p : Pool) → length (p .months) ≡ 16 → Keeps p p
+keeps-same : (p : Pool) → length (p .months) ≡ blockCount → Keeps p p
 keeps-same p e = record { long = e; kept = λ x c i. i }
 
 keeps-then : (p q r : Pool) → Keeps p q → Keeps q r → Keeps p r
@@ -49,21 +49,21 @@ SameByte b i st u = getD (u .store) (place b i) noRate ≡ getD (st .store) (pla
 record Leaves (t : Bool) (m : ℕ) (st u : Stored) : Type 0 where
   keeps : Keeps (st .pool) (u .pool)
   size : length (u .store) ≡ length (st .store)
-  leaves : (b i : ℕ) → i < 1488 → (t ≡ true → InBlock (u .pool) m b → ⊥) → SameByte b i st u
+  leaves : (b i : ℕ) → i < blockLength → (t ≡ true → InBlock (u .pool) m b → ⊥) → SameByte b i st u
 
-stays : (t : Bool) (m : ℕ) (st : Stored) → length (st .pool .months) ≡ 16 → Leaves t m st st
+stays : (t : Bool) (m : ℕ) (st : Stored) → length (st .pool .months) ≡ blockCount → Leaves t m st st
 stays t m st long = record { keeps = keeps-same (st .pool) long; size = refl; leaves = λ b i l n. refl }
 
 -- ---- a month opened, a piece laid
 
-open-leaves : (m : ℕ) (st : Stored) → length (st .pool .months) ≡ 16 → Leaves true m st (openMonth m st)
+open-leaves : (m : ℕ) (st : Stored) → length (st .pool .months) ≡ blockCount → Leaves true m st (openMonth m st)
 unfolding openMonth
 open-leaves m st long = go (findOf (st .pool) m)
   where
     Open : Taken → Type 0
     Open t = Leaves true m st (opened (t .pool) (t .place) (st .store))
 
-    filled : (c : ℕ) → c < 16 → isFree (st .pool) c ≡ true → Open (record { pool = given (st .pool) m c; place = In c })
+    filled : (c : ℕ) → c < blockCount → isFree (st .pool) c ≡ true → Open (record { pool = given (st .pool) m c; place = In c })
     filled c l free = record {
       keeps = given-keeps (st .pool) m c long l free;
       size = length-sets (st .store) (place c 0) blank;
@@ -80,7 +80,7 @@ open-leaves m st long = go (findOf (st .pool) m)
         (λ z. let w = take-in (st .pool) m z in subst Open (sym (w .3)) (filled (w .0) (w .1) (w .2)))
         (eq-zero-or-pos (freeCount (st .pool)))
 
-lay-leaves : (q : Piece) (st : Stored) → length (st .pool .months) ≡ 16 → q .from + length (q .rates) ≤ 1488 → Leaves true (q .month) st (layPiece q st)
+lay-leaves : (q : Piece) (st : Stored) → length (st .pool .months) ≡ blockCount → q .from + length (q .rates) ≤ blockLength → Leaves true (q .month) st (layPiece q st)
 unfolding layPiece
 lay-leaves q st long fits = go (findOf (st .pool) (q .month)) refl
   where
@@ -88,14 +88,14 @@ lay-leaves q st long fits = go (findOf (st .pool) (q .month)) refl
     go Nothing e = stays true (q .month) st long
     go (At c) e = record {
       keeps = keeps-same (st .pool) long;
-      size = length-sets (st .store) (place c (q .from)) (q .rates);
+      size = length-sets (st .store) (place c (q .from)) (rateBytes (q .rates));
       leaves = λ b i k n.
-          write-there (st .store) (q .rates) c (q .from) b i noRate
+          laid-there (st .store) (q .rates) c (q .from) b i noRate
           (λ x. n refl (subst (λ (y : ℕ). InBlock (st .pool) (q .month) y) (sym x) (find-at (st .pool) (q .month) c e)))
           k fits;
     }
 
-piece-leaves : (floor : ℕ) (q : Piece) (st : Stored) → length (st .pool .months) ≡ 16 → (live floor q ≡ true → q .from + length (q .rates) ≤ 1488)
+piece-leaves : (floor : ℕ) (q : Piece) (st : Stored) → length (st .pool .months) ≡ blockCount → (live floor q ≡ true → q .from + length (q .rates) ≤ blockLength)
     → Leaves (live floor q) (q .month) st (putPiece floor q st)
 unfolding putPiece
 piece-leaves floor q st long fits = go (live floor q) refl
@@ -114,7 +114,7 @@ piece-leaves floor q st long fits = go (live floor q) refl
 
 -- ---- a run, and a file's records
 
-stays-all : (floor : ℕ) (covered : ℕ → Bool) (st : Stored) → length (st .pool .months) ≡ 16 → Untouched floor covered st st
+stays-all : (floor : ℕ) (covered : ℕ → Bool) (st : Stored) → length (st .pool .months) ≡ blockCount → Untouched floor covered st st
 stays-all floor covered st long = record { keeps = keeps-same (st .pool) long; size = refl; same = λ b i l n. refl }
 
 pub run-leaves : RunUntouched
@@ -129,7 +129,7 @@ run-leaves floor s rates st long = go (canPut s rates st)
         let t = sym (piece-live floor k s rates) ∙ e in
         (leb-true floor k (and-left (leb floor k) (meets k s (length rates)) t), and-right (leb floor k) (meets k s (length rates)) t)
 
-    part : (k : ℕ) (u : Stored) → length (u .pool .months) ≡ 16 → Leaves (live floor (pieceIn k s rates)) k u (putPiece floor (pieceIn k s rates) u)
+    part : (k : ℕ) (u : Stored) → length (u .pool .months) ≡ blockCount → Leaves (live floor (pieceIn k s rates)) k u (putPiece floor (pieceIn k s rates) u)
     part k u e =
         subst (λ (x : ℕ). Leaves (live floor (pieceIn k s rates)) x u (putPiece floor (pieceIn k s rates) u)) (piece-month k s rates)
         (piece-leaves floor (pieceIn k s rates) u e (λ x. piece-inside k s rates (met k x .1)))

@@ -10,7 +10,8 @@ use lib.Dec.{leb, ltb, eqb}
 use lib.ListN.{length, getD, length-set, getD-replicate}
 use lib.Seq.{sets, length-sets}
 use borrow.Author.Tests.{eqb-true, eqb-false}
-use Rattle.rules.specs.Store.{storeLength, noRate, toByte}
+use Rattle.rules.specs.Calendar.{lastMonth, monthCount}
+use Rattle.rules.specs.Store.{storeLength, noRate, toByte, blockCount, blockLength}
 use Rattle.rules.specs.Machine.{countBelow}
 use Rattle.pool.specs.Blocks.{isFree, freeCount, findOf, given}
 use Rattle.pool.specs.Held.{InBlock, Held, Sound}
@@ -31,13 +32,13 @@ pub record View : Type 0 where
   pub says : ℕ → ℕ → Option ℕ
 
 pub record Shows (st : Stored) (v : View) : Type 0 where
-  pub months : length (st .pool .months) ≡ 16
-  pub bits : st .pool .free < 2 ^ 16
+  pub months : length (st .pool .months) ≡ blockCount
+  pub bits : st .pool .free < 2 ^ blockCount
   pub full : length (st .store) ≡ storeLength
-  pub low : v .floor ≤ 1199
+  pub low : v .floor ≤ lastMonth
   pub sound : Sound (st .pool) (v .floor)
   pub held : (m : ℕ) → Held (st .pool) m ↔ (v .held m ≡ true)
-  pub bytes : (m b i : ℕ) → InBlock (st .pool) m b → i < 1488 → getD (st .store) (place b i) noRate ≡ toByte (v .says m i)
+  pub bytes : (m b i : ℕ) → InBlock (st .pool) m b → i < blockLength → getD (st .store) (place b i) noRate ≡ toByte (v .says m i)
   -- of the view alone: a month that is not held has no rates
   pub silent : (m i : ℕ) → v .held m ≡ false → v .says m i ≡ none
 
@@ -61,7 +62,7 @@ layView q v = record { floor = v .floor; held = v .held; says = λ k i. cond (pi
 -- ---- a month gets a block
 
 module _ (st : Stored) (v : View) (h : Shows st v) where
-  pub count-view : freeCount (st .pool) + countBelow 1200 (v .held) ≡ 16
+  pub count-view : freeCount (st .pool) + countBelow monthCount (v .held) ≡ blockCount
   count-view = free-held (st .pool) (v .floor) (h .sound) (v .held) (h .held)
 
   pub not-held : (m : ℕ) → findOf (st .pool) m ≡ Nothing → v .held m ≡ false
@@ -75,9 +76,9 @@ module _ (st : Stored) (v : View) (h : Shows st v) where
       same k true q = ap (v .held) (eqb-true k m q) ∙ e
       same k false q = refl
 
-  module _ (m : ℕ) (from : v .floor ≤ m) (until : m ≤ 1199) where
+  module _ (m : ℕ) (from : v .floor ≤ m) (until : m ≤ lastMonth) where
     -- block b, which was free, is given to the month and filled with 255
-    took : (b : ℕ) → b < 16 → isFree (st .pool) b ≡ true → v .held m ≡ false → Shows (opened (given (st .pool) m b) (In b) (st .store)) (openView m v)
+    took : (b : ℕ) → b < blockCount → isFree (st .pool) b ≡ true → v .held m ≡ false → Shows (opened (given (st .pool) m b) (In b) (st .store)) (openView m v)
     took b l free n = record {
       months = length-set (st .pool .months) b m ∙ h .months;
       bits = given-bits (st .pool) m b;
@@ -106,21 +107,21 @@ module _ (st : Stored) (v : View) (h : Shows st v) where
         from′ : (x : ℕ) → eqb x m || v .held x ≡ true → Held (given (st .pool) m b) x
         from′ x e = either x .1 (⊎-elim (λ q. inl (eqb-true x m q)) (λ q. inr (h .held x .1 q)) (or-cases (eqb x m) (v .held x) e))
 
-        at-byte : (x c i : ℕ) → i < 1488 → ((x ≡ m) × (c ≡ b)) ⊎ ((c ≡ b → ⊥) × InBlock (st .pool) x c)
+        at-byte : (x c i : ℕ) → i < blockLength → ((x ≡ m) × (c ≡ b)) ⊎ ((c ≡ b → ⊥) × InBlock (st .pool) x c)
             → getD (opened (given (st .pool) m b) (In b) (st .store) .store) (place c i) noRate ≡ toByte (v .says x i)
         at-byte x c i j (inl w) =
             ap (λ (k : ℕ). getD (sets (st .store) (place b 0) blank) (place k i) noRate) (w .1)
             ∙ fill-here (st .store) blank b i noRate length-blank j (omega (arith, h .full))
-            ∙ getD-replicate 1488 i noRate noRate j
+            ∙ getD-replicate blockLength i noRate noRate j
             ∙ ap toByte (sym (ap (λ (k : ℕ). v .says k i) (w .0) ∙ h .silent m i n))
         at-byte x c i j (inr w) = write-there (st .store) blank b 0 c i noRate (w .0) j (omega (arith, length-blank)) ∙ h .bytes x c i (w .1) j
 
-    pub open-shows : countBelow 1200 (openView m v .held) ≤ 16 → Shows (openMonth m st) (openView m v)
+    pub open-shows : countBelow monthCount (openView m v .held) ≤ blockCount → Shows (openMonth m st) (openView m v)
     unfolding openMonth
     open-shows few = go (findOf (st .pool) m) refl
       where
         room : v .held m ≡ false → 0 < freeCount (st .pool)
-        room n = omega (arith, count-view, count-open 1200 m (v .held) (omega arith) n)
+        room n = omega (arith, count-view, count-open monthCount m (v .held) (omega arith) n)
 
         go : (o : Found) → findOf (st .pool) m ≡ o → Shows (openBy o m st) (openView m v)
         go (At b) e = subst (λ (w : View). Shows st w) (held-open m (h .held m .0 (b, find-at (st .pool) m b e))) h

@@ -7,8 +7,9 @@ use mathlib.Core.List.{List, [], _∷_}
 use mathlib.Core.Option.{Option, none, some}
 use lib.Dec.{ltb}
 use lib.ListN.{length, getD}
-use Rattle.rules.specs.Calendar.{firstSlot, slotsOfMonth}
-use Rattle.rules.specs.Store.{blockLength, storeLength, blockOf, noRate, toByte, Held as HeldMonth}
+use Rattle.rules.specs.Calendar.{firstSlot, slotsOfMonth, lastMonth}
+use Rattle.rules.specs.Body.{highestRate}
+use Rattle.rules.specs.Store.{blockLength, storeLength, blockOf, noRate, toByte, Held as HeldMonth, blockCount}
 use Rattle.rules.specs.Machine.{Machine, rateOf, isHeld}
 use Rattle.pool.specs.Held.{InBlock, Held, Sound}
 use Rattle.schedule.specs.Stored.{Stored, place}
@@ -32,16 +33,16 @@ BlocksHave M [] store = Unit {0}
 BlocksHave M (h ∷ hs) store = (blockOf store (h .block) ≡ monthBytes M (h .month)) × BlocksHave M hs store
 
 pub record Agrees (st : Stored) (M : Machine) : Type 0 where
-  -- what every pool and store of the code has: 16 months, 16 bits, 23,808 bytes
-  pub months : length (st .pool .months) ≡ 16
-  pub bits : st .pool .free < 2 ^ 16
+  -- what every pool and store of the code has: a month and a bit for each block, and 01's length
+  pub months : length (st .pool .months) ≡ blockCount
+  pub bits : st .pool .free < 2 ^ blockCount
   pub full : length (st .store) ≡ storeLength
-  pub floor : M .floor ≤ 1199
-  -- held months are between floor and 1199, and each has one block
+  pub floor : M .floor ≤ lastMonth
+  -- held months are between floor and the last month, and each has one block
   pub sound : Sound (st .pool) (M .floor)
   -- they are the machine's
   pub held : (m : ℕ) → Held (st .pool) m ↔ (isHeld M m ≡ true)
   -- each byte of a held month's block is the machine's rate of its slot, and 255 past the month's end
   pub bytes : (m b i : ℕ) → InBlock (st .pool) m b → i < blockLength → getD (st .store) (place b i) noRate ≡ toByte (rateAt M m i)
   -- no rate reads as 255
-  pub rates : (s r : ℕ) → rateOf M s ≡ some r → r ≤ 100
+  pub rates : (s r : ℕ) → rateOf M s ≡ some r → r ≤ highestRate

@@ -5,12 +5,12 @@ use mathlib.Core.Bool.{true}
 use mathlib.Core.List.{List, map}
 use lib.Dec.{leb}
 use lib.ListN.{length}
-use Rattle.rules.specs.Calendar.{slotCount}
+use Rattle.rules.specs.Calendar.{slotCount, lastMonth}
 use Rattle.rules.specs.Store.{blockCount, storeLength, blockOf, member, distinct, soundStore}
 use Rattle.rules.specs.Body.{Record}
 use Rattle.rules.specs.File.{File, file, takeFile, recordsIn}
 use Rattle.rules.specs.Machine.{Machine, freshMachine, rateOf, isHeld, heldCount, anyRecord, withFile}
-use Rattle.pool.specs.Blocks.{freeCount, releaseOf}
+use Rattle.pool.specs.Blocks.{freeCount, releaseOf, allFree}
 use Rattle.pool.specs.Held.{InBlock, heldOf, soundPool}
 use Rattle.pool.specs.declared.Pool.{Pool}
 use Rattle.schedule.specs.Stored.{Stored, storeHolds, storedRate, putRun, meets, missing}
@@ -23,7 +23,7 @@ use Rattle.about_store.specs.Untouched.{Untouched}
 -- a pool whose blocks are all free, and any store of 01's length, agree with the fresh machine
 abbrev pub FreshAgrees : Type 0
 FreshAgrees =
-    (p : Pool) (store : List ℕ) → length (p .months) ≡ 16 → p .free ≡ 65535 → length store ≡ storeLength
+    (p : Pool) (store : List ℕ) → length (p .months) ≡ blockCount → p .free ≡ allFree → length store ≡ storeLength
     → Agrees (record { pool = p; store = store }) freshMachine
 
 -- the machine's clock, requests and command make no difference
@@ -33,14 +33,14 @@ SameAgrees = (st : Stored) (M N : Machine) → N .floor ≡ M .floor → N .file
 -- the floor rises to f, and the blocks of the months below it are released
 abbrev pub ReleaseAgrees : Type 0
 ReleaseAgrees =
-    (st : Stored) (M N : Machine) (f : ℕ) → N .floor ≡ f → N .files ≡ M .files → M .floor ≤ f → f ≤ 1199
+    (st : Stored) (M N : Machine) (f : ℕ) → N .floor ≡ f → N .files ≡ M .files → M .floor ≤ f → f ≤ lastMonth
     → Agrees st M → Agrees (record { pool = releaseOf (st .pool) f; store = st .store }) N
 
--- a file is put whose months there is room for
+-- a file is put whose months there is room for, taken at any clock
 abbrev pub PutAgrees : Type 0
 PutAgrees =
-    (st : Stored) (M : Machine) (f : File) → GoodFile f → heldCount (withFile f M) ≤ blockCount
-    → Agrees st M → Agrees (putRecords (M .floor) (recordsIn (f .body)) st) (withFile f M)
+    (st : Stored) (M : Machine) (c : ℕ) (f : File) → GoodFile f → heldCount (withFile c f M) ≤ blockCount
+    → Agrees st M → Agrees (putRecords (M .floor) (recordsIn (f .body)) st) (withFile c f M)
 
 -- every file that is taken is such a file
 abbrev pub TakenGood : Type 0
@@ -56,16 +56,16 @@ RateAgrees = (st : Stored) (M : Machine) → Agrees st M → (s : ℕ) → s < s
 abbrev pub FreeAgrees : Type 0
 FreeAgrees = (st : Stored) (M : Machine) → Agrees st M → freeCount (st .pool) ≡ blockCount - heldCount M
 
--- the machine holds sixteen months at the most
+-- the machine holds no more months than there are blocks
 abbrev pub HeldFew : Type 0
 HeldFew = (st : Stored) (M : Machine) → Agrees st M → heldCount M ≤ blockCount
 
 -- whether there is room for a file's months: cause 14
 abbrev pub RoomAgrees : Type 0
 RoomAgrees =
-    (st : Stored) (M : Machine) → Agrees st M → (f : File) → GoodFile f
+    (st : Stored) (M : Machine) → Agrees st M → (c : ℕ) (f : File) → GoodFile f
     → leb (missing (st .pool) (M .floor) (runStart (recordsIn (f .body))) (runLength (recordsIn (f .body)))) (freeCount (st .pool))
-    ≡ leb (heldCount (withFile f M)) blockCount
+    ≡ leb (heldCount (withFile c f M)) blockCount
 
 -- ---- pool and store are sound, and say what the machine's files say
 
@@ -102,11 +102,11 @@ BytesAgree = (st : Stored) (M : Machine) → Agrees st M → (m b : ℕ) → InB
 -- a run of rates changes bytes of the months that it has slots in, from floor on, and no others
 abbrev pub RunUntouched : Type 0
 RunUntouched =
-    (floor s : ℕ) (rates : List ℕ) (st : Stored) → length (st .pool .months) ≡ 16
+    (floor s : ℕ) (rates : List ℕ) (st : Stored) → length (st .pool .months) ≡ blockCount
     → Untouched floor (λ m. meets m s (length rates)) st (putRun floor s rates st)
 
 -- records put in order change bytes of the months that one of them has slots in
 abbrev pub RecordsUntouched : Type 0
 RecordsUntouched =
-    (floor : ℕ) (rs : List Record) (st : Stored) → length (st .pool .months) ≡ 16
+    (floor : ℕ) (rs : List Record) (st : Stored) → length (st .pool .months) ≡ blockCount
     → Untouched floor (λ m. anyRecord m rs) st (putRecords floor rs st)

@@ -6,7 +6,7 @@ use mathlib.Core.List.{List, [], _∷_}
 use lib.ListN.{length}
 use Rattle.rules.specs.Digits.{allAtMost}
 use Rattle.rules.specs.Calendar.{firstSlot, monthOfSlot, slotCount}
-use Rattle.rules.specs.Body.{Record}
+use Rattle.rules.specs.Body.{Record, highestRate}
 use Rattle.rules.specs.File.{File, recordsIn, startOf}
 use Rattle.schedule.specs.Stored.{Stored, putRun}
 
@@ -15,7 +15,7 @@ pub record GoodRecord (r : Record) : Type 0 where
   pub begins : startOf r < slotCount
   pub ends : startOf r + length (r .rates) ≤ slotCount
   pub near : startOf r + length (r .rates) ≤ firstSlot (suc (suc (monthOfSlot (startOf r))))
-  pub rates : allAtMost 100 (r .rates) ≡ true
+  pub rates : allAtMost highestRate (r .rates) ≡ true
 
 -- the records follow each other from slot s on
 abbrev pub RunFrom : ℕ → List Record → Type 0

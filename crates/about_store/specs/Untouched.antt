@@ -3,14 +3,14 @@ use Prim.Native.Nat.{ℕ, _≤_, _<_}
 use mathlib.Core.Path.{_≡_}
 use mathlib.Core.Bool.{Bool, true}
 use lib.ListN.{length, getD}
-use Rattle.rules.specs.Store.{blockLength, noRate}
+use Rattle.rules.specs.Store.{blockLength, noRate, blockCount}
 use Rattle.pool.specs.Held.{InBlock}
 use Rattle.pool.specs.declared.Pool.{Pool}
 use Rattle.schedule.specs.Stored.{Stored, place}
 
 -- every held month keeps its block
 pub record Keeps (p q : Pool) : Type 0 where
-  pub long : length (q .months) ≡ 16
+  pub long : length (q .months) ≡ blockCount
   pub kept : (m b : ℕ) → InBlock p m b → InBlock q m b
 
 -- from st to u: a byte changes only in the block of a month from floor on that is covered

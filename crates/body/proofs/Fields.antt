@@ -9,7 +9,7 @@ use lib.Dec.{eqb, lit≤}
 use lib.ListN.{length, length-take}
 use borrow.Author.Tests.{le-leb}
 use Rattle.rules.specs.Digits.{part, allAtMost, value, sameBytes}
-use Rattle.rules.specs.Body.{flagDigits, ratesOf, recordAt}
+use Rattle.rules.specs.Body.{flagDigits, ratesOf, recordAt, highestRate}
 use Rattle.rules.specs.File.{sum, checksumOf}
 use Rattle.rules.specs.declared.Format.{Format}
 use Rattle.digits.specs.Decimal.{ratesSum}
@@ -18,9 +18,9 @@ use Rattle.body.specs.declared.stages.Stage.the-variants.{Plants}
 use Rattle.body.proofs.Parts.{part-part, part-to}
 
 module _ (f : Format) (s : List ℕ) (n : ℕ) (n≡ : n ≡ ratesOf s) where
-  pub rates-fit : {b : Bool} → b ≡ allAtMost 100 (part s 53 (53 + n - 53)) → b ≡ ratesFit (recordAt f s)
+  pub rates-fit : {b : Bool} → b ≡ allAtMost highestRate (part s 53 (53 + n - 53)) → b ≡ ratesFit (recordAt f s)
   unfolding recordAt
-  rates-fit e = e ∙ ap (allAtMost 100) (part-to s 53 n ∙ ap (λ (k : ℕ). part s 53 k) n≡)
+  rates-fit e = e ∙ ap (allAtMost highestRate) (part-to s 53 n ∙ ap (λ (k : ℕ). part s 53 k) n≡)
 
   -- fl is the flag's digits, t the sum of the rates, x and y month and day, m the remainder, q the checksum
   pub checksum-fits : (fl t x y m q : ℕ) → n ≤ 99999 → fl ≡ flagDigits f → t ≡ ratesSum (part s 53 (53 + n - 53))

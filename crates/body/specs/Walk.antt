@@ -7,7 +7,7 @@ use mathlib.Core.Option.{Option, none, some}
 use lib.ListN.{length, getD, drop}
 use lib.Dec.{leb, eqb}
 use Rattle.rules.specs.Digits.{part, allAtMost, allDigits, value, sameBytes}
-use Rattle.rules.specs.Body.{Record, tailDigits, ratesOf, sizeOf, recordShape, recordAt}
+use Rattle.rules.specs.Body.{Record, tailDigits, ratesOf, sizeOf, recordShape, recordAt, highestRate}
 use Rattle.rules.specs.File.{checksumOf}
 use Rattle.rules.specs.Calendar.{moment}
 use Rattle.rules.specs.declared.Format.{Format}
@@ -39,7 +39,7 @@ pub record Whole (f : Format) (s : List ℕ) : Type 0 where
 
 -- whether no rate of a record is above 100, and whether its checksum is right
 abbrev pub ratesFit : Record → Bool
-ratesFit r = allAtMost 100 (r .rates)
+ratesFit r = allAtMost highestRate (r .rates)
 
 abbrev pub checksumFits : Record → Bool
 checksumFits r = eqb (value (r .checksum)) (checksumOf (r .start) (r .rates))

@@ -15,6 +15,7 @@ use crate::places::rate_count;
 use crate::places::record_count;
 use crate::places::record_size;
 use rules::Format;
+use rules::HIGHEST_RATE;
 
 // What is looked at in all records before the next.
 pub enum Stage {
@@ -22,9 +23,6 @@ pub enum Stage {
     Checksums,
     Plants,
 }
-
-// 'a rate is one byte 0 to 100' (01, Names and bodies).
-const HIGHEST_RATE: u8 = 100;
 
 // a modulo m; a where m is 0.
 fn modulo(a: u32, m: u32) -> u32

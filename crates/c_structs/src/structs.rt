@@ -7,6 +7,7 @@ use plant::Plant;
 use polling::Requests;
 use pool::Pool;
 use rules::Answer;
+use rules::BLOCK_COUNT;
 use unit::Clock;
 use unit::Done;
 use unit::Installed;
@@ -30,7 +31,7 @@ pub struct HeldUnit {
     pub failures: u8,
     pub clock_set: u8,
     pub floor: u16,
-    pub months: [u16; 16],
+    pub months: [u16; BLOCK_COUNT],
     pub free: u16,
     pub clock: u32,
     pub command: u32,

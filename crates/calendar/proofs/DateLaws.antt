@@ -10,7 +10,7 @@ use lib.Dec.{leb}
 use lib.ListN.{length, length-append}
 use borrow.Author.Tests.{ltb-true, leb-true, eq-eqb, ne-eqb}
 use Rattle.rules.specs.Digits.{part, value, allAtMost, allDigits, digits}
-use Rattle.rules.specs.Calendar.{firstDay, yearIn, monthIn, dayIn, hourIn, minuteIn, secondIn, monthAt, exists, secondsOf, moment, wholeMinute, halfHour, startSlot, slotOf}
+use Rattle.rules.specs.Calendar.{firstDay, yearIn, monthIn, dayIn, hourIn, minuteIn, secondIn, monthAt, exists, secondsOf, moment, wholeMinute, halfHour, startSlot, slotOf, monthCount, dayCount, endOfTime, slotLength, slotCount}
 use Rattle.calendar.specs.Moments.{momentOf, monthExists, dayExists, timeExists, Dated, secondAt}
 use Rattle.calendar.specs.declared.dates.Moment.the-variants.{At, Missing}
 use Rattle.calendar.proofs.Tests.{both}
@@ -45,7 +45,7 @@ pub dated : (y m d h i s : ℕ) → monthExists y m ≡ true → (dayExists (12 
     → Dated (12 * (y - 2000) + (m - 1)) d h i s
 dated y m d h i s e f =
     let g = month-facts y m e in
-    let few : 12 * (y - 2000) + (m - 1) < 1200 = omega arith in
+    let few : 12 * (y - 2000) + (m - 1) < monthCount = omega arith in
     let dt = both _ _ f in
     let d₁ = both _ _ (dt .0) in
     let t₂ = both _ _ (dt .1) in
@@ -60,10 +60,10 @@ dated y m d h i s e f =
     }
 
 module _ {m d h i s : ℕ} (w : Dated m d h i s) where
-  pub date-day : firstDay m + (d - 1) < 36525
-  date-day = omega (arith, w .first, w .last, first-day-step m, first-day-monotone _ 1200 (w .month), first-day-end)
+  pub date-day : firstDay m + (d - 1) < dayCount
+  date-day = omega (arith, w .first, w .last, first-day-step m, first-day-monotone _ monthCount (w .month), first-day-end)
 
-  pub date-below : secondAt m d h i s < 3155760000
+  pub date-below : secondAt m d h i s < endOfTime
   date-below = omega (arith, date-day, w .hour, w .minute, w .second)
 
 -- ---- 14 digits
@@ -74,7 +74,7 @@ module _ (s : List ℕ) where
   unfolding exists
   exists-is = simp and-assoc
 
-  pub exists-below : exists s ≡ true → secondsOf s < 3155760000
+  pub exists-below : exists s ≡ true → secondsOf s < endOfTime
   unfolding secondsOf
   exists-below e =
       let t = both _ _ (sym exists-is ∙ e) in
@@ -149,7 +149,7 @@ module _ (s : List ℕ) where
   start-short h = rw (ne-eqb (length s) 12 h) refl
 
   module _ (full : length s ≡ 12) where
-    start-is : startSlot s ≡ cond (allDigits s && exists (wholeMinute s) && halfHour s) (some (secondsOf (wholeMinute s) / 1800)) none
+    start-is : startSlot s ≡ cond (allDigits s && exists (wholeMinute s) && halfHour s) (some (secondsOf (wholeMinute s) / slotLength)) none
     unfolding startSlot
     start-is = rw (eq-eqb (length s) 12 full) refl
 
@@ -179,7 +179,7 @@ pub at-some : (o : Option ℕ) (t : ℕ) → At t ≡ momentOf o → o ≡ some 
 at-some none t e = let x : _≡_ {A = ℕ} 0 1 = cc in absurd (omega arith)
 at-some (some k) t e = cc
 
-pub start-below : (s : List ℕ) (k : ℕ) → startSlot s ≡ some k → k < 1753200
+pub start-below : (s : List ℕ) (k : ℕ) → startSlot s ≡ some k → k < slotCount
 unfolding startSlot
 start-below s k e =
     let w = wholeMinute s in

@@ -7,7 +7,7 @@ use native.Mathlib.Omega.{arith}
 use native.Mathlib.Nat.{add-suc, add-zero, zero-add}
 use lib.Dec.{leb, ltb}
 use borrow.Author.Tests.{le-ltb, ltb-true, ltb-false, leb-true, leb-false}
-use Rattle.rules.specs.Calendar.{daysOfMonth, slotsOfMonth, firstDay, firstSlot, monthFrom, monthOfDay, monthOfSlot, slotOf, monthOf}
+use Rattle.rules.specs.Calendar.{daysOfMonth, slotsOfMonth, firstDay, firstSlot, monthFrom, monthOfDay, monthOfSlot, slotOf, monthOf, slotsOfDay, monthCount, dayCount, slotCount, dayLength, slotLength}
 use Rattle.calendar.specs.Cycle.{every, Within}
 use Rattle.calendar.proofs.Tests.{both, every-at}
 
@@ -49,11 +49,11 @@ pub first-cycle : (q k : ℕ) → firstDay (48 * q + k) ≡ 1461 * q + firstDay 
 first-cycle q k = omega (arith, first-shift q k, first-cycles q)
 
 -- the end of 2099
-pub first-day-end : firstDay 1200 ≡ 36525
+pub first-day-end : firstDay monthCount ≡ dayCount
 first-day-end = first-cycles 25
 
-pub first-slot-end : firstSlot 1200 ≡ 1753200
-first-slot-end = ap (λ (d : ℕ). 48 * d) first-day-end
+pub first-slot-end : firstSlot monthCount ≡ slotCount
+first-slot-end = ap (λ (d : ℕ). slotsOfDay * d) first-day-end
 
 -- ---- months rise
 
@@ -130,61 +130,61 @@ month-past (suc k) m d l =
     rw (le-ltb d (daysOfMonth m) long) (month-past k (suc m) (d - daysOfMonth m) (rw (day, end) l) ∙ end)
 
 -- a day before the end of 2099 lies in its month, one of 1200
-pub day-within : (d : ℕ) → d < 36525 → Within 1200 d (monthOfDay d)
+pub day-within : (d : ℕ) → d < dayCount → Within monthCount d (monthOfDay d)
 unfolding monthOfDay firstDay
-day-within d l = rw (zero-add d) at (month-from 1200 0 d (rw (first-day-end, zero-add d) l))
+day-within d l = rw (zero-add d) at (month-from monthCount 0 d (rw (first-day-end, zero-add d) l))
 
-pub day-past : (d : ℕ) → 36525 ≤ d → monthOfDay d ≡ 1200
+pub day-past : (d : ℕ) → dayCount ≤ d → monthOfDay d ≡ monthCount
 unfolding monthOfDay firstDay
-day-past d l = month-past 1200 0 d (rw (first-day-end, zero-add d) l)
+day-past d l = month-past monthCount 0 d (rw (first-day-end, zero-add d) l)
 
 -- and in no other
-pub day-month : (d m : ℕ) → Within 1200 d m → monthOfDay d ≡ m
+pub day-month : (d m : ℕ) → Within monthCount d m → monthOfDay d ≡ m
 day-month d m w =
-    let end = first-day-monotone (suc m) 1200 (w .few) in
+    let end = first-day-monotone (suc m) monthCount (w .few) in
     let v = day-within d (omega (arith, first-day-end, w .until)) in
     omega (arith, day-before d m (monthOfDay d) (w .from) (v .until), day-before d (monthOfDay d) m (v .from) (w .until))
 
 -- ---- the month of a slot; 1,753,200 slots are 2000 to 2099
 
 module _ (s : ℕ) where
-  pub slot-month-few : s < 1753200 → monthOfSlot s < 1200
-  slot-month-few l = day-within (s / 48) (omega arith) .few
+  pub slot-month-few : s < slotCount → monthOfSlot s < monthCount
+  slot-month-few l = day-within (s / slotsOfDay) (omega arith) .few
 
-  pub slot-month-from : s < 1753200 → firstSlot (monthOfSlot s) ≤ s
-  slot-month-from l = let w = day-within (s / 48) (omega arith) .from in omega arith
+  pub slot-month-from : s < slotCount → firstSlot (monthOfSlot s) ≤ s
+  slot-month-from l = let w = day-within (s / slotsOfDay) (omega arith) .from in omega arith
 
-  pub slot-month-until : s < 1753200 → s < firstSlot (suc (monthOfSlot s))
-  slot-month-until l = let w = day-within (s / 48) (omega arith) .until in omega arith
+  pub slot-month-until : s < slotCount → s < firstSlot (suc (monthOfSlot s))
+  slot-month-until l = let w = day-within (s / slotsOfDay) (omega arith) .until in omega arith
 
-  pub slot-month-is : (m : ℕ) → m < 1200 → firstSlot m ≤ s → s < firstSlot (suc m) → monthOfSlot s ≡ m
-  slot-month-is m few from until = day-month (s / 48) m (record { few = few; from = omega arith; until = omega arith })
+  pub slot-month-is : (m : ℕ) → m < monthCount → firstSlot m ≤ s → s < firstSlot (suc m) → monthOfSlot s ≡ m
+  slot-month-is m few from until = day-month (s / slotsOfDay) m (record { few = few; from = omega arith; until = omega arith })
 
-  pub slot-month-past : 1753200 ≤ s → monthOfSlot s ≡ 1200
-  slot-month-past l = day-past (s / 48) (omega arith)
+  pub slot-month-past : slotCount ≤ s → monthOfSlot s ≡ monthCount
+  slot-month-past l = day-past (s / slotsOfDay) (omega arith)
 
-  pub slot-month-most : monthOfSlot s ≤ 1200
-  slot-month-most = go (ltb s 1753200) refl
+  pub slot-month-most : monthOfSlot s ≤ monthCount
+  slot-month-most = go (ltb s slotCount) refl
     where
-      go : (t : Bool) → ltb s 1753200 ≡ t → monthOfSlot s ≤ 1200
-      go true e = omega (arith, slot-month-few (ltb-true s 1753200 e))
-      go false e = omega (arith, slot-month-past (ltb-false s 1753200 e))
+      go : (t : Bool) → ltb s slotCount ≡ t → monthOfSlot s ≤ monthCount
+      go true e = omega (arith, slot-month-few (ltb-true s slotCount e))
+      go false e = omega (arith, slot-month-past (ltb-false s slotCount e))
 
-pub slot-month-first : (m : ℕ) → m < 1200 → monthOfSlot (firstSlot m) ≡ m
+pub slot-month-first : (m : ℕ) → m < monthCount → monthOfSlot (firstSlot m) ≡ m
 slot-month-first m few = slot-month-is (firstSlot m) m few (omega arith) (first-slot-rises m)
 
 pub slot-month-monotone : (a b : ℕ) → a ≤ b → monthOfSlot a ≤ monthOfSlot b
-slot-month-monotone a b l = go (ltb b 1753200) refl
+slot-month-monotone a b l = go (ltb b slotCount) refl
   where
-    go : (t : Bool) → ltb b 1753200 ≡ t → monthOfSlot a ≤ monthOfSlot b
+    go : (t : Bool) → ltb b slotCount ≡ t → monthOfSlot a ≤ monthOfSlot b
     go true e =
-        let h = ltb-true b 1753200 e in
+        let h = ltb-true b slotCount e in
         let from = slot-month-from a (omega arith) in
         let until = slot-month-until b h in
-        day-before (a / 48) (monthOfSlot a) (monthOfSlot b) (omega arith) (omega arith)
-    go false e = omega (arith, slot-month-most a, slot-month-past b (ltb-false b 1753200 e))
+        day-before (a / slotsOfDay) (monthOfSlot a) (monthOfSlot b) (omega arith) (omega arith)
+    go false e = omega (arith, slot-month-most a, slot-month-past b (ltb-false b slotCount e))
 
 pub month-slot : (t : ℕ) → monthOf t ≡ monthOfSlot (slotOf t)
-month-slot t = let e : t / 86400 ≡ t / 1800 / 48 = omega arith in ap monthOfDay e
+month-slot t = let e : t / dayLength ≡ t / slotLength / slotsOfDay = omega arith in ap monthOfDay e
 
 -- ---- the leap rule

@@ -9,7 +9,7 @@ use native.Mathlib.Omega.{arith}
 use lib.Dec.{ltb, eqb}
 use lib.ListN.{getD}
 use borrow.Author.Tests.{ltb-true, ltb-false, eqb-true}
-use Rattle.rules.specs.Calendar.{daysOfMonth, firstDay}
+use Rattle.rules.specs.Calendar.{daysOfMonth, firstDay, monthCount}
 use Rattle.calendar.specs.Cycle.{every, rightTable, Within}
 use Rattle.calendar.proofs.Laws.{first-cycle, first-day-most}
 use Rattle.calendar.proofs.Tests.{every-at}
@@ -48,7 +48,7 @@ pub guess-here : (d : ℕ) → d < 1461 → d < firstDay (d / 31 + 1) → Within
 guess-here d l until = record { few = omega arith; from = omega (arith, first-day-most (d / 31)); until = rw add-one at until }
 
 -- a day of a later four years
-pub within-cycle : (q d m : ℕ) → q < 25 → Within 48 d m → Within 1200 (1461 * q + d) (48 * q + m)
+pub within-cycle : (q d m : ℕ) → q < 25 → Within 48 d m → Within monthCount (1461 * q + d) (48 * q + m)
 within-cycle q d m l w =
     let next : suc (48 * q + m) ≡ 48 * q + suc m = omega arith in
     record {

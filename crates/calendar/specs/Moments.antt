@@ -3,7 +3,7 @@ use Prim.Native.Nat.{ℕ, _+_, _-_, _*_, _≤_, _<_}
 use mathlib.Core.Bool.{Bool, _&&_}
 use mathlib.Core.Option.{Option, none, some}
 use lib.Dec.{leb, ltb}
-use Rattle.rules.specs.Calendar.{dayLength, daysOfMonth, firstDay}
+use Rattle.rules.specs.Calendar.{dayLength, daysOfMonth, firstDay, monthCount}
 use Rattle.calendar.specs.declared.dates.Moment.{Moment}
 use Rattle.calendar.specs.declared.dates.Moment.the-variants.{At, Missing}
 
@@ -23,7 +23,7 @@ timeExists h i s = ltb h 24 && ltb i 60 && ltb s 60
 
 -- day d of month m, at h hours, i minutes and s seconds, is a time of 2000 to 2099
 pub record Dated (m d h i s : ℕ) : Type 0 where
-  pub month : m < 1200
+  pub month : m < monthCount
   pub first : 1 ≤ d
   pub last : d ≤ daysOfMonth m
   pub hour : h < 24

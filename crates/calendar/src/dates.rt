@@ -7,13 +7,13 @@ ghost use lib.ListN.{length};
 ghost use Rattle.rules.specs.Digits.{part, value};
 ghost use Rattle.rules.specs.Calendar.{moment, startSlot, wholeMinute};
 ghost use Rattle.calendar.specs.Moments.{momentOf, monthExists, dayExists, timeExists, Dated, secondAt};
-use crate::months::DAY;
 use crate::months::FIRST_YEAR;
 use crate::months::MONTHS_OF_YEAR;
 use crate::months::YEARS;
 use crate::months::days_of_month;
 use crate::months::first_day;
 use crate::months::slot_of;
+use rules::DAY_LENGTH;
 
 // The second, or the slot, that digits stand for; Missing where they stand for none.
 pub enum Moment {
@@ -84,7 +84,7 @@ fn second_at(month: u16, day: u32, hour: u32, minute: u32, second: u32) -> u32
     requires { ⌜ Dated month day hour minute second ⌝ }
     ensures { λ r. ⌜ r ≡ secondAt month day hour minute second ⌝ }
 {
-    DAY * (first_day(month) + (day - 1)) + (HOUR * hour + MINUTE * minute + second)
+    DAY_LENGTH * (first_day(month) + (day - 1)) + (HOUR * hour + MINUTE * minute + second)
 }
 
 // The second of a date of 14 digits; Missing where `digits` are no date that exists.

@@ -4,13 +4,12 @@ ghost use mathlib.Core.Bool.{true};
 ghost use Prim.Native.Nat.{_≤_, _<_};
 ghost use Rattle.rules.specs.Calendar.{daysOfMonth, firstDay, firstSlot, monthOfDay, monthOfSlot, slotOf, monthOf, timeOfDay};
 ghost use Rattle.calendar.specs.Cycle.{rightTable, Within};
-
-// 'A slot is 1,800 s' (01, Time, plant, settings), and 48 slots are a day.
-pub const SLOT: u32 = 1800;
-
-const SLOTS_OF_DAY: u32 = 48;
-
-pub const DAY: u32 = SLOTS_OF_DAY * SLOT;
+use rules::DAY_COUNT;
+use rules::DAY_LENGTH;
+use rules::LONGEST_MONTH;
+use rules::MONTH_COUNT;
+use rules::SLOT_LENGTH;
+use rules::SLOTS_OF_DAY;
 
 // 2000 to 2099.
 pub const FIRST_YEAR: u32 = 2000;
@@ -27,14 +26,6 @@ const CYCLE_YEARS: u32 = 4;
 const CYCLE_MONTHS: u32 = CYCLE_YEARS * MONTHS_OF_YEAR;
 
 const CYCLE_DAYS: u32 = CYCLE_YEARS * 365 + 1;
-
-// 'Months are numbered from January 2000 = 0 to 1199' (01, Time, plant, settings).
-const MONTHS: u16 = (YEARS * MONTHS_OF_YEAR) as u16;
-
-const DAYS: u32 = YEARS / CYCLE_YEARS * CYCLE_DAYS;
-
-// The most days a month has.
-const LONG_MONTH: u32 = 31;
 
 // January to December, of a year that is not a leap year.
 const MONTH_DAYS: [u16; 12] = [31, 28, 31, 30, 31, 30, 31, 31, 30, 31, 30, 31];
@@ -140,7 +131,7 @@ fn month_of_cycle(day: u32) -> u32
     requires { ⌜ day < 1461 ⌝ }
     ensures { λ r. ⌜ Within 48 day r ⌝ }
 {
-    let guess = day / LONG_MONTH;
+    let guess = day / LONGEST_MONTH;
     if days_before(guess + 1) <= day {
         guess + 1
     } else {
@@ -148,17 +139,17 @@ fn month_of_cycle(day: u32) -> u32
     }
 }
 
-// The month of a day; 1200 from the end of 2099 on.
+// The month of a day; `MONTH_COUNT` from the end of 2099 on.
 fn month_of_day(day: u32) -> u16
     ensures { λ r. ⌜ r ≡ monthOfDay day ⌝ }
 {
-    if DAYS <= day {
-        return MONTHS;
+    if DAY_COUNT <= day {
+        return MONTH_COUNT;
     }
     (CYCLE_MONTHS * (day / CYCLE_DAYS) + month_of_cycle(day % CYCLE_DAYS)) as u16
 }
 
-// The month of a slot; 1200 from the end of 2099 on.
+// The month of a slot; `MONTH_COUNT` from the end of 2099 on.
 pub fn month_of_slot(slot: u32) -> u16
     ensures { λ r. ⌜ r ≡ monthOfSlot slot ⌝ }
 {
@@ -169,19 +160,19 @@ pub fn month_of_slot(slot: u32) -> u16
 pub fn slot_of(second: u32) -> u32
     ensures { λ r. ⌜ r ≡ slotOf second ⌝ }
 {
-    second / SLOT
+    second / SLOT_LENGTH
 }
 
-// The month of a second; 1200 from the end of 2099 on.
+// The month of a second; `MONTH_COUNT` from the end of 2099 on.
 pub fn month_of(second: u32) -> u16
     ensures { λ r. ⌜ r ≡ monthOf second ⌝ }
 {
-    month_of_day(second / DAY)
+    month_of_day(second / DAY_LENGTH)
 }
 
 // Seconds since midnight.
 pub fn time_of_day(second: u32) -> u32
     ensures { λ r. ⌜ r ≡ timeOfDay second ⌝ }
 {
-    second % DAY
+    second % DAY_LENGTH
 }

@@ -11,7 +11,7 @@ use lib.ListN.{length, drop, length-drop}
 use lib.Seq.{take-append-le, drop-append-le}
 use borrow.Author.Tests.{leb-true, eqb-true}
 use Rattle.rules.specs.Digits.{part, allDigits, digits, valueFrom}
-use Rattle.rules.specs.Calendar.{daysOfMonth, slotsOfMonth, yearIn, monthIn, monthAt, exists, secondsOf, moment, wholeMinute, halfHour, slotOf, startSlot}
+use Rattle.rules.specs.Calendar.{daysOfMonth, slotsOfMonth, yearIn, monthIn, monthAt, exists, secondsOf, moment, wholeMinute, halfHour, slotOf, startSlot, monthCount, slotsOfDay, slotCount}
 use Rattle.rules.specs.File.{monthBegins, inTime}
 use Rattle.calendar.specs.Moments.{momentOf}
 use Rattle.calendar.specs.declared.dates.Moment.the-variants.{At, Missing}
@@ -56,7 +56,7 @@ module _ (t : List ℕ) (full : length t ≡ 12) where
       rw (drop-append-le 4 t (0 ∷ 0 ∷ []) (omega arith), take-append-le 2 (drop 4 t) (0 ∷ 0 ∷ []) long) refl
 
   -- the month of a date that exists
-  pub month-below : exists (wholeMinute t) ≡ true → monthAt t < 1200
+  pub month-below : exists (wholeMinute t) ≡ true → monthAt t < monthCount
   unfolding exists
   month-below e =
       let w = wholeMinute t in
@@ -127,16 +127,16 @@ module _ (m n : ℕ) (t : List ℕ) where
     pub start-full : length t ≡ 12
     start-full = full-of 12 t (is-start t (at-some (startSlot t) j e) .0)
 
-    pub month-fits : k ≡ monthAt t → k < 1200
+    pub month-fits : k ≡ monthAt t → k < monthCount
     month-fits k≡ = omega (arith, month-below t start-full (is-start t (at-some (startSlot t) j e) .1))
 
-    pub is-month : {b : Bool} → k ≡ monthAt t → y ≡ daysOfMonth k → b ≡ monthBegins t → (eqb k m && b && eqb n (48 * y)) ≡ monthHolds m t n
+    pub is-month : {b : Bool} → k ≡ monthAt t → y ≡ daysOfMonth k → b ≡ monthBegins t → (eqb k m && b && eqb n (slotsOfDay * y)) ≡ monthHolds m t n
     unfolding monthHolds
     is-month {b} k≡ y≡ b≡ =
         let r = is-start t (at-some (startSlot t) j e) in
         rw (r .0, r .1, ← k≡, ← b≡, y≡) (go (eqb k m) refl)
       where
-        go : (v : Bool) → eqb k m ≡ v → (v && b && eqb n (48 * daysOfMonth k)) ≡ (true && true && v && b && eqb n (48 * daysOfMonth m))
+        go : (v : Bool) → eqb k m ≡ v → (v && b && eqb n (slotsOfDay * daysOfMonth k)) ≡ (true && true && v && b && eqb n (slotsOfDay * daysOfMonth m))
         go true e = rw (eqb-true k m e) refl
         go false e = refl
 
@@ -151,7 +151,7 @@ module _ (n : ℕ) (t u : List ℕ) where
   unfolding updateHolds
   update-no-next e = rw (no-moment u (missing-none (moment u) e)) (sym (and-false (inTime n (startSlot t))))
 
-  pub update-is : (k j : ℕ) → At k ≡ momentOf (startSlot t) → At j ≡ momentOf (moment u) → leb (k + n) 1753200 ≡ updateHolds t n u
+  pub update-is : (k j : ℕ) → At k ≡ momentOf (startSlot t) → At j ≡ momentOf (moment u) → leb (k + n) slotCount ≡ updateHolds t n u
   unfolding updateHolds
   update-is k j e g =
-      rw (at-some (startSlot t) k e, is-moment u (at-some (moment u) j g)) (sym (and-true (leb (k + n) 1753200)))
+      rw (at-some (startSlot t) k e, is-moment u (at-some (moment u) j g)) (sym (and-true (leb (k + n) slotCount)))

@@ -8,6 +8,7 @@ ghost use Rattle.rules.specs.Name.{segmentMonth};
 ghost use Rattle.rules.specs.File.{monthBegins};
 ghost use Rattle.dates.specs.Dates.{startMonth, monthHolds, updateHolds};
 use calendar::Moment;
+use rules::SLOTS_OF_DAY;
 
 // A start, YYYYMMDDhhmm: where its month and its day stand, and its length.
 const MONTH: usize = 4;
@@ -20,10 +21,8 @@ const FIRST_YEAR: u32 = 2000;
 
 const MONTHS_OF_YEAR: u32 = 12;
 
-const SLOTS_OF_DAY: u32 = 48;
-
-// 'last slot before T' (01, Names and bodies): the slots of 36,525 days.
-const SLOTS: u64 = 36525 * 48;
+// 'last slot before T' (01, Names and bodies).
+const SLOT_COUNT: u64 = rules::SLOT_COUNT as u64;
 
 // 'the start is day 01, 00:00' (01, Names and bodies).
 const MONTH_BEGINS: [u8; 6] = [0, 1, 0, 0, 0, 0];
@@ -106,5 +105,5 @@ pub fn is_update(start: &[u8], rates: u32, next: &[u8]) -> bool
     let Moment::At(_) = calendar::read_moment(next) else {
         return false;
     };
-    slot as u64 + rates as u64 <= SLOTS
+    slot as u64 + rates as u64 <= SLOT_COUNT
 }

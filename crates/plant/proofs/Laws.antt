@@ -11,6 +11,8 @@ use lib.ListN.{length, getD}
 use borrow.Author.Tests.{le-leb, leb-true, eqb-true}
 use Rattle.rules.specs.Digits.{allAtMost, digits}
 use Rattle.rules.specs.Plant.{Settings, plantId, lastDigit, weightedSum, checkDigit, hexByte, allHex, macAddress, capacity, rampMinutes, validSettings, contracted, percent, partsOf, fullCommand, installing}
+use Rattle.rules.specs.Body.{highestRate}
+use Rattle.rules.specs.Store.{longestWait}
 use Rattle.rules.specs.Machine.{fixedWait, updateWait, refusedWait}
 use Rattle.rules.specs.declared.Answer.{Answer}
 use Rattle.rules.specs.declared.Cause.{Cause}
@@ -36,9 +38,9 @@ pub record InRange (s : Settings) : Type 0 where
   pub inverter-most : s .inverter ≤ 2000000
   pub minutes-least : 5 ≤ s .minutes
   pub minutes-most : s .minutes ≤ 10
-  pub fixed-wait-most : fixedWait s ≤ 172800
-  pub update-wait-most : updateWait s ≤ 172800
-  pub refused-wait-most : refusedWait s ≤ 172800
+  pub fixed-wait-most : fixedWait s ≤ longestWait
+  pub update-wait-most : updateWait s ≤ longestWait
+  pub refused-wait-most : refusedWait s ≤ longestWait
 
 pub record Valid (p : Plant) : Type 0 where
   pub id : Id (p .id)
@@ -203,7 +205,7 @@ module _ (s : Settings) where
   percent-le r =
       div-le-of-le-mul (s .inverter) (rw (mul-comm (s .inverter) r) (mul-le-mul-left r contracted-most))
 
-  pub percent-most : (r : ℕ) → r ≤ 100 → percent s r ≤ 100
+  pub percent-most : (r : ℕ) → r ≤ highestRate → percent s r ≤ 100
   percent-most r h = le-trans (percent-le r) h
 
   pub percent-rises : (q r : ℕ) → q ≤ r → percent s q ≤ percent s r
@@ -211,7 +213,7 @@ module _ (s : Settings) where
   percent-rises q r h = quotient-rises (s .inverter) (mul-le-mul-right (contracted s) h)
 
   -- the command never aims above 100%
-  pub parts-most : (r : ℕ) → r ≤ 100 → partsOf s (percent s r) ≤ fullCommand s
+  pub parts-most : (r : ℕ) → r ≤ highestRate → partsOf s (percent s r) ≤ fullCommand s
   parts-most r h = le-trans (mul-le-mul-left (60 * s .minutes) (percent-most r h)) (omega arith)
 
   -- N is at most 10, so no command is above 60,000 parts

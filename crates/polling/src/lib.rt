@@ -1,9 +1,10 @@
 // What the unit asks the server for, and when (01, The plain machine): the flags w and h, the failures k, the fixed time f and the update time u.
 ghost use mathlib.Core.Path.{_≡_};
 ghost use mathlib.Core.Bool.{cond};
-ghost use Prim.Native.Nat.{_≤_};
+ghost use Prim.Native.Nat.{_<_};
+ghost use Rattle.rules.specs.Calendar.{dayLength};
 ghost use Rattle.rules.specs.Store.{soundRequests, freshRequests};
-ghost use Rattle.rules.specs.Machine.{takeUpdate, takeYear, failedUpdate, failedFixed, failed, isStatus, isClientError, updateWait, refusedWait, windowStart, inWindow, nextWindow};
+ghost use Rattle.rules.specs.Machine.{updateTime, takeUpdate, takeYear, failedUpdate, failedFixed, failed, isStatus, isClientError, updateWait, refusedWait, windowStart, inWindow, nextWindow};
 ghost use Rattle.plant.specs.Plant.{keptOf};
 ghost use Rattle.polling.specs.Requests.{requestsOf, requestsFrom};
 ghost use Rattle.polling.specs.Due.{dueFor};
@@ -16,19 +17,17 @@ use habits::retries;
 use habits::update_wait;
 use habits::window_length;
 use plant::Settings;
+use rules::DAY_LENGTH;
 use rules::Due;
+use rules::END_OF_TIME;
 use rules::Kind;
+use rules::LONGEST_WAIT;
 
 // 'flags 0 to 10 (10 is none)'.
 pub const NO_FLAG: u8 = 10;
 
-const DAY: u32 = 86400;
-
-// 'below T = 3,155,760,000'.
-const END_OF_TIME: u64 = 36525 * 86400;
-
 // 'f and u below T + 172,800'.
-const LATEST: u64 = END_OF_TIME + 172800;
+const LATEST: u64 = END_OF_TIME as u64 + LONGEST_WAIT as u64;
 
 // 'Window for check digit d: .. from 21:10:00 + 30 × d minutes'.
 const FIRST_WINDOW: u32 = 21 * 3600 + 10 * 60;
@@ -72,32 +71,38 @@ fn wait_after(settings: Settings, status: u64) -> u32
 // When the window of a check digit begins, in seconds of the day.
 fn window_start(digit: u8) -> u32
     ensures exact { λ r. ⌜ r ≡ windowStart digit ⌝ }
-    ensures bound { λ r. ⌜ r ≤ 86399 ⌝ }
+    ensures bound { λ r. ⌜ r < dayLength ⌝ }
 {
-    (FIRST_WINDOW + WINDOW_STEP * digit as u32) % DAY
+    (FIRST_WINDOW + WINDOW_STEP * digit as u32) % DAY_LENGTH
 }
 
-// Whether a second stands in the window.
+// Whether a second stands in the window, which may pass midnight.
 fn in_window(settings: Settings, digit: u8, clock: u32) -> bool
     ensures { λ r. ⌜ r ≡ inWindow (keptOf settings) digit clock ⌝ }
 {
-    let time = clock % DAY;
-    let start = window_start(digit);
-    let end = start as u64 + window_length(settings) as u64;
-    (start <= time) & ((time as u64) < end)
+    let time = clock % DAY_LENGTH;
+    let since = (time + (DAY_LENGTH - window_start(digit))) % DAY_LENGTH;
+    since < window_length(settings)
 }
 
 // The first window start that is later than the clock.
 fn next_window(digit: u8, clock: u32) -> u64
     ensures { λ r. ⌜ r ≡ nextWindow digit clock ⌝ }
 {
-    let midnight = (clock - clock % DAY) as u64;
+    let midnight = (clock - clock % DAY_LENGTH) as u64;
     let today = midnight + window_start(digit) as u64;
     if (clock as u64) < today {
         today
     } else {
-        today + DAY as u64
+        today + DAY_LENGTH as u64
     }
+}
+
+// When an update is asked for after a 203: at its next access, whatever the clock.
+fn update_time(clock: u32, next: u32) -> u64
+    ensures { λ r. ⌜ r ≡ updateTime clock next ⌝ }
+{
+    next as u64
 }
 
 impl Requests {
@@ -126,17 +131,18 @@ impl Requests {
             & (self.update_at < LATEST)
     }
 
-    // After a 203 with its flag and its next access.
-    pub fn take_update(self, flag: u8, next: u32) -> Requests
-        ensures { λ r. ⌜ r ≡ requestsFrom (takeUpdate flag next (requestsOf self)) ⌝ }
+    // After a 203 with its flag and its next access, at the clock.
+    pub fn take_update(self, clock: u32, flag: u8, next: u32) -> Requests
+        ensures { λ r. ⌜ r ≡ requestsFrom (takeUpdate clock flag next (requestsOf self)) ⌝ }
     {
+        let update_at = update_time(clock, next);
         if flag == self.wanted_flag {
             return Requests {
                 wanted_flag: self.wanted_flag,
                 held_flag: self.held_flag,
                 failures: self.failures,
                 fixed_at: self.fixed_at,
-                update_at: next as u64,
+                update_at,
             };
         }
         Requests {
@@ -144,7 +150,7 @@ impl Requests {
             held_flag: self.held_flag,
             failures: 0,
             fixed_at: 0,
-            update_at: next as u64,
+            update_at,
         }
     }
 

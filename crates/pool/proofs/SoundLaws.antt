@@ -8,7 +8,8 @@ use native.Mathlib.Omega.{arith}
 use native.Mathlib.Nat.{le-of-suc-le-suc, eq-or-lt-of-le}
 use lib.Dec.{leb, ltb, eqb}
 use borrow.Author.Tests.{lt-ltb, le-ltb, le-leb, eq-eqb, ne-eqb, ltb-true, ltb-false, leb-true, eqb-true, not-true}
-use Rattle.rules.specs.Store.{Held as HeldMonth, member, distinct, all, allBelow, soundMonths, soundBlocks}
+use Rattle.rules.specs.Calendar.{monthCount}
+use Rattle.rules.specs.Store.{Held as HeldMonth, member, distinct, all, allBelow, soundMonths, soundBlocks, blockCount}
 use Rattle.pool.specs.Blocks.{isFree, monthOf, soundOf}
 use Rattle.pool.specs.Held.{InBlock, Sound, heldBelow, heldOf, soundPool}
 use Rattle.pool.specs.declared.Pool.{Pool}
@@ -87,14 +88,14 @@ blocks-distinct (suc k) p = go (blocks-distinct k p) (isFree p k)
     go r true = r
     go r false = rw (block-member k p k, le-ltb k k (omega arith)) r
 
-blocks-below : (k : ℕ) (p : Pool) → k ≤ 16 → all (λ b. ltb b 16) (blocksOf (heldBelow k p)) ≡ true
+blocks-below : (k : ℕ) (p : Pool) → k ≤ blockCount → all (λ b. ltb b blockCount) (blocksOf (heldBelow k p)) ≡ true
 unfolding heldBelow all
 blocks-below zero p l = refl
 blocks-below (suc k) p l = go (blocks-below k p (omega arith)) (isFree p k)
   where
-    go : all (λ b. ltb b 16) (blocksOf (heldBelow k p)) ≡ true → (x : Bool) → all (λ b. ltb b 16) (blocksOf (grown k p x)) ≡ true
+    go : all (λ b. ltb b blockCount) (blocksOf (heldBelow k p)) ≡ true → (x : Bool) → all (λ b. ltb b blockCount) (blocksOf (grown k p x)) ≡ true
     go r true = r
-    go r false = rw (lt-ltb k 16 l) r
+    go r false = rw (lt-ltb k blockCount l) r
 
 all-blocks : (k : ℕ) (t : ℕ → Bool) → ((b : ℕ) → b < k → t b ≡ true) → allBelow k t ≡ true
 unfolding allBelow
@@ -104,8 +105,8 @@ all-blocks (suc k) t h = rw (h k (omega arith)) (all-blocks k t (λ b l. h b (om
 blocks-sound : (p : Pool) → soundBlocks (isFree p) (blocksOf (heldOf p)) ≡ true
 unfolding soundBlocks
 blocks-sound p =
-    rw (blocks-distinct 16 p, blocks-below 16 p (omega arith))
-    (all-blocks 16 _ (λ b l. rw (block-member 16 p b, lt-ltb b 16 l, not-not (isFree p b)) (beq-same (isFree p b))))
+    rw (blocks-distinct blockCount p, blocks-below blockCount p (omega arith))
+    (all-blocks blockCount _ (λ b l. rw (block-member blockCount p b, lt-ltb b blockCount l, not-not (isFree p b)) (beq-same (isFree p b))))
 
 -- ---- the months
 
@@ -142,7 +143,7 @@ month-out (suc k) p m e = go (month-out k p m) (isFree p k) refl e
 -- ---- 01's words from a sound pool
 
 module _ (p : Pool) (floor : ℕ) (s : Sound p floor) where
-  months-distinct : (k : ℕ) → k ≤ 16 → distinct (monthsOf (heldBelow k p)) ≡ true
+  months-distinct : (k : ℕ) → k ≤ blockCount → distinct (monthsOf (heldBelow k p)) ≡ true
   unfolding heldBelow distinct
   months-distinct zero l = refl
   months-distinct (suc k) l = go (months-distinct k (omega arith)) (isFree p k) refl
@@ -157,17 +158,17 @@ module _ (p : Pool) (floor : ℕ) (s : Sound p floor) where
       go r true f = r
       go r false f = rw (not-member (member (monthOf p k) (monthsOf (heldBelow k p))) (other f)) r
 
-  months-range : (k : ℕ) → k ≤ 16 → all (λ m. leb floor m && ltb m 1200) (monthsOf (heldBelow k p)) ≡ true
+  months-range : (k : ℕ) → k ≤ blockCount → all (λ m. leb floor m && ltb m monthCount) (monthsOf (heldBelow k p)) ≡ true
   unfolding heldBelow all
   months-range zero l = refl
   months-range (suc k) l = go (months-range k (omega arith)) (isFree p k) refl
     where
-      go : all (λ m. leb floor m && ltb m 1200) (monthsOf (heldBelow k p)) ≡ true → (x : Bool) → isFree p k ≡ x
-          → all (λ m. leb floor m && ltb m 1200) (monthsOf (grown k p x)) ≡ true
+      go : all (λ m. leb floor m && ltb m monthCount) (monthsOf (heldBelow k p)) ≡ true → (x : Bool) → isFree p k ≡ x
+          → all (λ m. leb floor m && ltb m monthCount) (monthsOf (grown k p x)) ≡ true
       go r true f = r
       go r false f =
           let i : InBlock p (monthOf p k) k = record { below = l; used = f; month = refl } in
-          rw (le-leb floor (monthOf p k) (s .low _ k i), lt-ltb (monthOf p k) 1200 (omega (arith, s .high _ k i))) r
+          rw (le-leb floor (monthOf p k) (s .low _ k i), lt-ltb (monthOf p k) monthCount (omega (arith, s .high _ k i))) r
 
 -- ---- a sound pool from 01's words
 
@@ -196,26 +197,26 @@ once p b u e = not-true _ (and-true (not (member (monthOf p b) (monthsOf (heldBe
 module _ (p : Pool) (floor : ℕ) (e : soundMonths floor (monthsOf (heldOf p)) ≡ true) where
   apart : distinct (monthsOf (heldOf p)) ≡ true
   unfolding soundMonths
-  apart = and-true (distinct (monthsOf (heldOf p))) (all (λ m. leb floor m && ltb m 1200) (monthsOf (heldOf p))) e .0
+  apart = and-true (distinct (monthsOf (heldOf p))) (all (λ m. leb floor m && ltb m monthCount) (monthsOf (heldOf p))) e .0
 
-  range : (m b : ℕ) → InBlock p m b → (leb floor m && ltb m 1200) ≡ true
+  range : (m b : ℕ) → InBlock p m b → (leb floor m && ltb m monthCount) ≡ true
   unfolding soundMonths
   range m b i =
-      all-member (λ m. leb floor m && ltb m 1200) (monthsOf (heldOf p)) m
-      (and-true (distinct (monthsOf (heldOf p))) (all (λ m. leb floor m && ltb m 1200) (monthsOf (heldOf p))) e .1)
-      (rw (i .month) at (month-in 16 p b (i .below) (i .used)))
+      all-member (λ m. leb floor m && ltb m monthCount) (monthsOf (heldOf p)) m
+      (and-true (distinct (monthsOf (heldOf p))) (all (λ m. leb floor m && ltb m monthCount) (monthsOf (heldOf p))) e .1)
+      (rw (i .month) at (month-in blockCount p b (i .below) (i .used)))
 
   -- no two used blocks, one above the other, have one month
   above : (m a b : ℕ) → InBlock p m a → InBlock p m b → a < b → ⊥
   above m a b i j l =
-      false≢true (sym (once p b (j .used) (distinct-down 16 (suc b) p (j .below) apart))
+      false≢true (sym (once p b (j .used) (distinct-down blockCount (suc b) p (j .below) apart))
       ∙ ap (λ (x : ℕ). member x (monthsOf (heldBelow b p))) (j .month ∙ sym (i .month))
       ∙ month-in b p a l (i .used))
 
   pool-sound : Sound p floor
   pool-sound = record {
-    low = λ m b i. leb-true floor m (and-true (leb floor m) (ltb m 1200) (range m b i) .0);
-    high = λ m b i. le-of-suc-le-suc (ltb-true m 1200 (and-true (leb floor m) (ltb m 1200) (range m b i) .1));
+    low = λ m b i. leb-true floor m (and-true (leb floor m) (ltb m monthCount) (range m b i) .0);
+    high = λ m b i. le-of-suc-le-suc (ltb-true m monthCount (and-true (leb floor m) (ltb m monthCount) (range m b i) .1));
     one = λ m a b i j. go m a b i j (ltb a b) refl (ltb b a) refl;
   }
     where
@@ -232,7 +233,7 @@ sound-same p floor =
     bool-same (soundOf p floor) (soundPool p floor)
     (λ e.
     let s = sound-is p floor .0 e in
-    rw (months-distinct p floor s 16 (omega arith), months-range p floor s 16 (omega arith)) (blocks-sound p))
+    rw (months-distinct p floor s blockCount (omega arith), months-range p floor s blockCount (omega arith)) (blocks-sound p))
     (λ e. sound-is p floor .1 (pool-sound p floor (and-true (soundMonths floor (monthsOf (heldOf p))) (soundBlocks (isFree p) (blocksOf (heldOf p))) e .0)))
 
 -- 01's soundness of the pool, as facts

@@ -10,9 +10,10 @@ use mathlib.Core.Option.{Option, none, some}
 use lib.Dec.{leb, eqb}
 use lib.ListN.{getD}
 use borrow.Author.Tests.{leb-true, leb-false, le-leb, lt-leb, eqb-false}
-use Rattle.rules.specs.Calendar.{slotOf}
+use Rattle.rules.specs.Calendar.{slotOf, slotLength}
 use Rattle.rules.specs.Plant.{Settings, percent, partsOf, fullCommand}
-use Rattle.rules.specs.Store.{noRate, fromByte}
+use Rattle.rules.specs.Body.{highestRate}
+use Rattle.rules.specs.Store.{noRate, fromByte, blockLength}
 use Rattle.rules.specs.Machine.{target, orZero, approach}
 use Rattle.plant.specs.Plant.{settingsOf}
 use Rattle.plant.specs.declared.Plant.{Plant}
@@ -24,7 +25,7 @@ use Rattle.pool.specs.declared.Found.the-variants.{At, Nothing}
 use Rattle.schedule.specs.Stored.{rateFound, storedRate}
 use Rattle.schedule.specs.Rates.{rateOption}
 use Rattle.schedule.specs.declared.rates.StoredRate.the-variants.{Rate, NoRate}
-use Rattle.ramp.specs.Command.{goalOf, commandOver, moved, commandAfter}
+use Rattle.ramp.specs.Command.{goalOf, commandOver, moved, commandAfter, lastSecond}
 
 -- ---- seconds toward one goal
 
@@ -103,7 +104,7 @@ module _ (s : Settings) (p : Pool) (store : List ℕ) where
       (commandOver-moved goal n (suc c) (approach goal x) (λ t a b. h t (omega arith) (omega arith)) ∙ moved-more goal n x)
 
   -- within a slot it stays
-  pub commandOver-slot : (slot n c x : ℕ) → 1800 * slot ≤ c + 1 → c + n < 1800 * slot + 1800 → commandOver s p store n c x ≡ moved (goalOf s p store slot) n x
+  pub commandOver-slot : (slot n c x : ℕ) → slotLength * slot ≤ c + 1 → c + n < slotLength * slot + slotLength → commandOver s p store n c x ≡ moved (goalOf s p store slot) n x
   commandOver-slot slot n c x from until =
       commandOver-moved (goalOf s p store slot) n c x
       (λ t a b. let e : slotOf t ≡ slot = omega arith in ap (goalOf s p store) e)
@@ -118,7 +119,7 @@ module _ (s : Settings) (p : Pool) (store : List ℕ) where
       (λ t a b. g t (omega arith) (omega arith))
 
   -- a legal command stays legal where each rate that it meets is
-  pub commandOver-full : (n c x : ℕ) → x ≤ fullCommand s → ((t : ℕ) → c < t → t ≤ c + n → orZero (storedRate p store (slotOf t)) ≤ 100) → commandOver s p store n c x ≤ fullCommand s
+  pub commandOver-full : (n c x : ℕ) → x ≤ fullCommand s → ((t : ℕ) → c < t → t ≤ c + n → orZero (storedRate p store (slotOf t)) ≤ highestRate) → commandOver s p store n c x ≤ fullCommand s
   commandOver-full n c x h legal =
       commandOver-most (fullCommand s) n c x h (λ t a b. parts-most s (orZero (storedRate p store (slotOf t))) (legal t a b))
 
@@ -152,13 +153,13 @@ module _ (s : Settings) (o : Option ℕ) where
 -- ---- bytes, N at most 10: every goal is within a slot's reach
 
 -- past the end stands 255
-byte-most : (store : List ℕ) → ((i : ℕ) → getD store i 0 < 256) → (i : ℕ) → getD store i 255 ≤ 255
+byte-most : (store : List ℕ) → ((i : ℕ) → getD store i 0 < 256) → (i : ℕ) → getD store i noRate ≤ noRate
 byte-most [] h i = omega arith
 byte-most (b ∷ bs) h zero = omega (arith, h 0)
 byte-most (b ∷ bs) h (suc i) = byte-most bs (λ j. h (suc j)) i
 
 -- 255 is no rate
-from-byte-most : (b : ℕ) → b ≤ 255 → orZero (fromByte b) ≤ 254
+from-byte-most : (b : ℕ) → b ≤ noRate → orZero (fromByte b) ≤ 254
 unfolding fromByte
 from-byte-most b h = go (eqb b noRate) refl
   where
@@ -171,7 +172,7 @@ unfolding storedRate
 stored-most p store bytes slot = go (findOf p _) _
   where
     go : (f : Found) (i : ℕ) → orZero (rateFound f store i) ≤ 254
-    go (At b) i = from-byte-most (getD store (b * 1488 + i) 255) (byte-most store bytes (b * 1488 + i))
+    go (At b) i = from-byte-most (getD store (b * blockLength + i) noRate) (byte-most store bytes (b * blockLength + i))
     go Nothing i = zero-le
 
 pub goal-most : (s : Settings) (p : Pool) (store : List ℕ) → s .minutes ≤ 10 → ((i : ℕ) → getD store i 0 < 256) → (slot : ℕ) → goalOf s p store slot ≤ 152400
@@ -183,29 +184,29 @@ goal-most s p store few bytes slot =
 
 module _ (s : Settings) (p : Pool) (store : List ℕ) (reach : (slot : ℕ) → goalOf s p store slot ≤ 180000) where
   -- the 1,800 seconds of the next slot lead to its goal
-  pub commandOver-whole : (slot x : ℕ) → x ≤ 180000 → commandOver s p store 1800 (1800 * slot + 1799) x ≡ goalOf s p store (suc slot)
+  pub commandOver-whole : (slot x : ℕ) → x ≤ 180000 → commandOver s p store slotLength (lastSecond slot) x ≡ goalOf s p store (suc slot)
   commandOver-whole slot x h =
       let goal = goalOf s p store (suc slot) in
       let g = reach (suc slot) in
-      commandOver-slot s p store (suc slot) 1800 (1800 * slot + 1799) x (omega arith) (omega arith)
-      ∙ moved-reaches goal 1800 x (omega arith) (omega arith)
+      commandOver-slot s p store (suc slot) slotLength (lastSecond slot) x (omega arith) (omega arith)
+      ∙ moved-reaches goal slotLength x (omega arith) (omega arith)
 
   -- of several whole slots only the last counts
-  pub commandOver-wholes : (slot k x : ℕ) → x ≤ 180000 → commandOver s p store (1800 * suc k) (1800 * slot + 1799) x ≡ goalOf s p store (slot + suc k)
+  pub commandOver-wholes : (slot k x : ℕ) → x ≤ 180000 → commandOver s p store (slotLength * suc k) (lastSecond slot) x ≡ goalOf s p store (slot + suc k)
   commandOver-wholes slot k x h =
-      let c = 1800 * slot + 1799 in
-      let many : 1800 * suc k ≡ 1800 * k + 1800 = omega arith in
-      let start : c + 1800 * k ≡ 1800 * (slot + k) + 1799 = omega arith in
+      let c = lastSecond slot in
+      let many : slotLength * suc k ≡ slotLength * k + slotLength = omega arith in
+      let start : c + slotLength * k ≡ lastSecond (slot + k) = omega arith in
       ap (λ (n : ℕ). commandOver s p store n c x) many
-      ∙ commandOver-add s p store (1800 * k) 1800 c x
-      ∙ ap (λ (d : ℕ). commandOver s p store 1800 d (commandOver s p store (1800 * k) c x)) start
-      ∙ commandOver-whole (slot + k) (commandOver s p store (1800 * k) c x) (commandOver-most s p store 180000 (1800 * k) c x h (λ t a b. reach (slotOf t)))
+      ∙ commandOver-add s p store (slotLength * k) slotLength c x
+      ∙ ap (λ (d : ℕ). commandOver s p store slotLength d (commandOver s p store (slotLength * k) c x)) start
+      ∙ commandOver-whole (slot + k) (commandOver s p store (slotLength * k) c x) (commandOver-most s p store 180000 (slotLength * k) c x h (λ t a b. reach (slotOf t)))
       ∙ ap (goalOf s p store) (sym (add-suc slot k))
 
 -- the whole slots after slot `first` and before slot `last`
 module _ (s : Settings) (p : Pool) (store : List ℕ) where
   pub between-some : s .minutes ≤ 10 → ((i : ℕ) → getD store i 0 < 256) → (first last whole x : ℕ) → first < whole → whole + 1 ≡ last → x ≤ 180000
-      → goalOf s p store whole ≡ commandOver s p store (1800 * (last - first - 1)) (1800 * first + 1799) x
+      → goalOf s p store whole ≡ commandOver s p store (slotLength * (last - first - 1)) (lastSecond first) x
   between-some few bytes first last whole x l e h =
       let k = whole - first - 1 in
       let n : suc k ≡ last - first - 1 = omega arith in
@@ -213,11 +214,11 @@ module _ (s : Settings) (p : Pool) (store : List ℕ) where
       let reach : (slot : ℕ) → goalOf s p store slot ≤ 180000 = λ slot. le-trans (goal-most s p store few bytes slot) (omega arith) in
       ap (goalOf s p store) slot
       ∙ sym (commandOver-wholes s p store reach first k x h)
-      ∙ ap (λ (m : ℕ). commandOver s p store (1800 * m) (1800 * first + 1799) x) n
+      ∙ ap (λ (m : ℕ). commandOver s p store (slotLength * m) (lastSecond first) x) n
 
-  pub between-none : (first last x : ℕ) → last ≤ first + 1 → x ≡ commandOver s p store (1800 * (last - first - 1)) (1800 * first + 1799) x
+  pub between-none : (first last x : ℕ) → last ≤ first + 1 → x ≡ commandOver s p store (slotLength * (last - first - 1)) (lastSecond first) x
   unfolding commandOver
-  between-none first last x l = let n : 1800 * (last - first - 1) ≡ 0 = omega arith in rw n refl
+  between-none first last x l = let n : slotLength * (last - first - 1) ≡ 0 = omega arith in rw n refl
 
 -- ---- a tick in three parts
 
@@ -229,17 +230,17 @@ module _ (s : Settings) (p : Pool) (store : List ℕ) (clock until x : ℕ) (lat
   -- r is the command after the rest of the first slot, the whole slots after it, and the seconds of the last one
   pub over-parts : (first last rest end left stands r : ℕ)
       → left ≡ moved (goalOf s p store first) rest x
-      → stands ≡ commandOver s p store (1800 * (last - first - 1)) (1800 * first + 1799) left
+      → stands ≡ commandOver s p store (slotLength * (last - first - 1)) (lastSecond first) left
       → r ≡ moved (goalOf s p store last) end stands
       → first ≡ slotOf (clock + 1)
       → last ≡ slotOf until
       → first < last
-      → clock + rest ≡ 1800 * first + 1799
-      → until + 1 ≡ 1800 * last + end
+      → clock + rest ≡ lastSecond first
+      → until + 1 ≡ slotLength * last + end
       → r ≡ commandOver s p store (until - clock) clock x
   over-parts first last rest end left stands r el es er ef eu l to from =
-      let whole = 1800 * (last - first - 1) in
-      let c = 1800 * first + 1799 in
+      let whole = slotLength * (last - first - 1) in
+      let c = lastSecond first in
       let n : rest + (whole + end) ≡ until - clock = omega arith in
       let start : commandOver s p store rest clock x ≡ left = commandOver-slot s p store first rest clock x (omega arith) (omega arith) ∙ sym el in
       let parts : commandOver s p store (rest + (whole + end)) clock x ≡ commandOver s p store end (c + whole) stands =

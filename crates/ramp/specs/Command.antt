@@ -3,7 +3,7 @@ use Prim.Native.Nat.{ℕ, zero, suc, _+_, _-_, _*_, _≤_, _<_, min, max}
 use mathlib.Core.Bool.{cond, _&&_}
 use mathlib.Core.List.{List}
 use lib.Dec.{leb}
-use Rattle.rules.specs.Calendar.{slotOf}
+use Rattle.rules.specs.Calendar.{slotLength, slotOf}
 use Rattle.rules.specs.Plant.{Settings}
 use Rattle.rules.specs.Machine.{target, approach}
 use Rattle.plant.specs.Plant.{settingsOf}
@@ -24,6 +24,10 @@ commandOver settings pool store (suc n) c command =
 -- n seconds toward one goal, at once
 unfoldable pub moved : ℕ → ℕ → ℕ → ℕ
 moved goal n command = cond (leb command goal) (min goal (command + 100 * n)) (max goal (command - 100 * n))
+
+-- the last second of a slot
+abbrev pub lastSecond : ℕ → ℕ
+lastSecond slot = slotLength * slot + (slotLength - 1)
 
 -- values with which a slot's 1,800 seconds reach any target; from and until are seconds or slots
 pub record InReach (minutes from until command : ℕ) : Type 0 where

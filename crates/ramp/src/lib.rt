@@ -1,14 +1,13 @@
 // The command over the seconds of a tick: at once over a slot, and over the slots between only by the last of them, so that a long tick costs what a short one costs.
 ghost use mathlib.Core.Path.{_≡_};
 ghost use Prim.Native.Nat.{_+_, _-_, _*_};
+ghost use Rattle.rules.specs.Calendar.{slotLength};
 ghost use Rattle.plant.specs.Plant.{settingsOf};
-ghost use Rattle.ramp.specs.Command.{goalOf, commandOver, moved, InReach, commandAfter};
+ghost use Rattle.ramp.specs.Command.{goalOf, commandOver, moved, lastSecond, InReach, commandAfter};
 use plant::Plant;
 use pool::Pool;
+use rules::SLOT_LENGTH;
 use schedule::StoredRate;
-
-// 'A slot is 1,800 s'.
-const SLOT: u32 = 1800;
 
 // 'By at most 100' parts each second.
 const STEP: u64 = 100;
@@ -59,7 +58,7 @@ fn in_slot(plant: Plant, pool: Pool, store: &[u8], slot: u32, seconds: u32, comm
 // The whole slots between two: after one the command stands on its goal, so that only the last of them counts.
 fn between(plant: Plant, pool: Pool, store: &[u8], first: u32, last: u32, command: u64) -> u64
     requires { ⌜ InReach (plant .settings .minutes) first last command ⌝ }
-    ensures { λ r. ⌜ r ≡ commandOver (settingsOf plant) pool (now (store .entry)) (1800 * (last - first - 1)) (1800 * first + 1799) command ⌝ }
+    ensures { λ r. ⌜ r ≡ commandOver (settingsOf plant) pool (now (store .entry)) (slotLength * (last - first - 1)) (lastSecond first) command ⌝ }
 {
     let whole = last - 1;
     if first < whole {
@@ -79,10 +78,10 @@ fn over(plant: Plant, pool: Pool, store: &[u8], clock: u32, until: u32, command:
     if first == last {
         return in_slot(plant, pool, store, first, until - clock, command);
     }
-    let rest = SLOT * (first + 1) - 1 - clock;
+    let rest = SLOT_LENGTH * (first + 1) - 1 - clock;
     let left = in_slot(plant, pool, store, first, rest, command);
     let stands = between(plant, pool, store, first, last, left);
-    in_slot(plant, pool, store, last, until - SLOT * last + 1, stands)
+    in_slot(plant, pool, store, last, until - SLOT_LENGTH * last + 1, stands)
 }
 
 // The command after a tick from clock to until, from what the pool and the store say before it.

@@ -5,7 +5,7 @@ use rules::Format;
 use rules::Written;
 
 // The rates of 13 months of 31 days.
-const MOST_RATES: usize = 13 * 1488;
+const MOST_RATES: usize = 13 * rules::BLOCK_LENGTH;
 
 // 'X' of 01's bench examples.
 const PLANT: [u8; 26] =

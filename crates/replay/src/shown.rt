@@ -3,11 +3,9 @@ use pool::Found;
 use pool::Pool;
 use polling::NO_FLAG;
 use polling::Requests;
+use rules::MONTH_COUNT;
 use unit::Clock;
 use unit::Unit;
-
-// Months are numbered to 1199.
-const MONTHS: u16 = 1200;
 
 fn put_clock(clock: Clock, out: &mut [u8], at: usize) -> usize {
     let at = script_fields::put_text(out, at, b"clock ");
@@ -53,7 +51,7 @@ fn put_if_held(pool: Pool, month: u16, start: usize, out: &mut [u8], at: usize) 
 fn put_months(pool: Pool, out: &mut [u8], start: usize) -> usize {
     let mut end = start;
     let mut month: u16 = 0;
-    while month < MONTHS {
+    while month < MONTH_COUNT {
         end = put_if_held(pool, month, start, out, end);
         month += 1;
     }
@@ -102,7 +100,7 @@ pub(crate) fn put_block(pool: Pool, month: u64, store: &[u8], out: &mut [u8], at
     if store.len() != Unit::STORE_LENGTH {
         return script_fields::put_text(out, at, b"none\n");
     }
-    if MONTHS as u64 <= month {
+    if MONTH_COUNT as u64 <= month {
         return script_fields::put_text(out, at, b"none\n");
     }
     let Found::At(block) = pool.find(month as u16) else {

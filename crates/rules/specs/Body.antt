@@ -19,6 +19,10 @@ pub record Record : Type 0 where
   pub checksum : List ℕ
   pub next : List ℕ
 
+-- 'a rate is one byte 0 to 100'
+abbrev pub highestRate : ℕ
+highestRate = 100
+
 -- '201: 13 records', '202: 1 record', '203: 1 record', '301: count 1'
 abbrev pub countOf : Format → ℕ
 countOf F201 = 13

@@ -32,6 +32,13 @@ endOfTime = slotCount * slotLength
 abbrev pub monthCount : ℕ
 monthCount = 1200
 
+abbrev pub lastMonth : ℕ
+lastMonth = monthCount - 1
+
+-- the days of the longest months
+abbrev pub longestMonth : ℕ
+longestMonth = 31
+
 -- from 2000 to 2099 every fourth year is a leap year: 2000 is one, and no other year here ends in 00
 abbrev pub leapYear : ℕ → Bool
 leapYear year = eqb (year % 4) 0
@@ -67,7 +74,7 @@ monthFrom (suc k) m d =
     let later = monthFrom k (suc m) (d - daysOfMonth m) in
     cond (ltb d (daysOfMonth m)) m later
 
--- the month of a day; 1200 from the end of 2099 on
+-- the month of a day; `monthCount` from the end of 2099 on
 unfoldable pub monthOfDay : ℕ → ℕ
 monthOfDay d = monthFrom monthCount 0 d
 

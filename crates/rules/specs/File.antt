@@ -1,15 +1,15 @@
 -- Reading a name and body (01, Names and bodies, and the causes 7 to 13): each stage covers all records before the next.
-use Prim.Native.Nat.{ℕ, suc, _+_, _%_, _≤_}
-use mathlib.Core.Bool.{Bool, true, false, cond, _&&_, not}
+use Prim.Native.Nat.{ℕ, suc, _+_, _%_}
+use mathlib.Core.Bool.{Bool, true, false, _&&_, not}
 use mathlib.Core.List.{List, [], _∷_}
 use mathlib.Core.Option.{Option, none, some}
 use lib.ListN.{length, getD}
 use lib.Dec.{leb, eqb}
 use Rattle.rules.specs.Digits.{part, allAtMost, value, sameBytes}
-use Rattle.rules.specs.Calendar.{exists, monthIn, dayIn, monthAt, moment, secondsOf, slotOf, startSlot, wholeMinute, slotsOfMonth, slotCount}
+use Rattle.rules.specs.Calendar.{exists, monthIn, dayIn, monthAt, secondsOf, slotOf, startSlot, wholeMinute, slotsOfMonth, slotCount}
 use Rattle.rules.specs.Plant.{plantId}
 use Rattle.rules.specs.Name.{Name, parseName, lawfulName, segmentMonth}
-use Rattle.rules.specs.Body.{Record, Body, schedule, registration, parseBody, formOfBody, every, isSchedule}
+use Rattle.rules.specs.Body.{Record, Body, schedule, registration, parseBody, formOfBody, every, isSchedule, highestRate}
 use Rattle.rules.specs.Table.{need}
 use Rattle.rules.specs.declared.Cause.{Cause}
 use Rattle.rules.specs.declared.Format.{Format}
@@ -70,7 +70,7 @@ datesHold n (registration plant result) = true
 -- ---- stage 11: 'rate above 100'
 
 unfoldable pub ratesHold : Body → Bool
-ratesHold (schedule rs) = every (λ r. allAtMost 100 (r .rates)) rs
+ratesHold (schedule rs) = every (λ r. allAtMost highestRate (r .rates)) rs
 ratesHold (registration plant result) = true
 
 -- ---- stage 12: 'sum of the rates modulo (month + day of the start), two digits. The flag isn't summed'

@@ -167,30 +167,36 @@ lostClock M = record { clock = none; floor = M .floor; files = M .files; request
 
 -- ---- file taken
 
+-- 'u becomes the next access', whatever the clock
+unfoldable pub updateTime : ℕ → ℕ → ℕ
+updateTime clock next = next
+
 -- '203: if its flag differs from w, w becomes it, k = f = 0; u becomes the next access'
-unfoldable pub takeUpdate : ℕ → ℕ → Requests → Requests
-takeUpdate flag next q =
+unfoldable pub takeUpdate : ℕ → ℕ → ℕ → Requests → Requests
+takeUpdate clock flag next q =
+    let u = updateTime clock next in
     cond (eqb flag (q .wantedFlag))
-    (record { wantedFlag = q .wantedFlag; heldFlag = q .heldFlag; failures = q .failures; fixedAt = q .fixedAt; updateAt = next })
-    (record { wantedFlag = flag; heldFlag = q .heldFlag; failures = 0; fixedAt = 0; updateAt = next })
+    (record { wantedFlag = q .wantedFlag; heldFlag = q .heldFlag; failures = q .failures; fixedAt = q .fixedAt; updateAt = u })
+    (record { wantedFlag = flag; heldFlag = q .heldFlag; failures = 0; fixedAt = 0; updateAt = u })
 
 -- '201: h becomes the segment's last digit, k = f = 0'
 unfoldable pub takeYear : ℕ → Requests → Requests
 takeYear digit q = record { wantedFlag = q .wantedFlag; heldFlag = digit; failures = 0; fixedAt = 0; updateAt = q .updateAt }
 
 -- '202: nothing more'
-abbrev pub takeBy : Format → Name → List Record → Requests → Requests
-takeBy F201 n rs q = takeYear (segmentDigit (n .segment)) q
-takeBy F202 n rs q = q
-takeBy F203 n rs q = takeUpdate (flagOf rs) (nextAccess rs) q
-takeBy F301 n rs q = q
+abbrev pub takeBy : ℕ → Format → Name → List Record → Requests → Requests
+takeBy clock F201 n rs q = takeYear (segmentDigit (n .segment)) q
+takeBy clock F202 n rs q = q
+takeBy clock F203 n rs q = takeUpdate clock (flagOf rs) (nextAccess rs) q
+takeBy clock F301 n rs q = q
 
-unfoldable pub withFile : File → Machine → Machine
-withFile f M = record {
+-- the machine with a file that was taken at that clock
+unfoldable pub withFile : ℕ → File → Machine → Machine
+withFile clock f M = record {
   clock = M .clock;
   floor = M .floor;
   files = M .files ++ (f ∷ []);
-  requests = takeBy (f .name .format) (f .name) (recordsIn (f .body)) (M .requests);
+  requests = takeBy clock (f .name .format) (f .name) (recordsIn (f .body)) (M .requests);
   command = M .command;
 }
 
@@ -220,8 +226,9 @@ windowLength s = 1200
 unfoldable pub windowStart : ℕ → ℕ
 windowStart d = timeOfDay (21 * 3600 + 10 * 60 + 1800 * d)
 
+-- the time of day less the window's start, modulo a day: a window that passes midnight goes on into the next day
 unfoldable pub inWindow : Settings → ℕ → ℕ → Bool
-inWindow s d t = leb (windowStart d) (timeOfDay t) && ltb (timeOfDay t) (windowStart d + windowLength s)
+inWindow s d t = ltb (timeOfDay (timeOfDay t + (dayLength - windowStart d))) (windowLength s)
 
 -- 'the first window start later than clock': today's where it is still to come, else tomorrow's
 unfoldable pub nextWindow : ℕ → ℕ → ℕ
@@ -296,14 +303,14 @@ atClock none next M = refusal Cause.ClockUnset M
 atClock (some t) next M = next t
 
 -- '14 by the months that it would hold with the file added'
-abbrev pub takeOutcome : Outcome → Machine → Step
-takeOutcome (refuse c) M = refusal c M
-takeOutcome (file f) M = check (leb (heldCount (withFile f M)) blockCount) Cause.Full (accepted, withFile f M) M
+abbrev pub takeOutcome : ℕ → Outcome → Machine → Step
+takeOutcome t (refuse c) M = refusal c M
+takeOutcome t (file f) M = check (leb (heldCount (withFile t f M)) blockCount) Cause.Full (accepted, withFile t f M) M
 
 unfoldable pub step : Told → Call → Machine → Step
 step w (tick t) M = checkStore w (check (ltb t endOfTime) Cause.Range (accepted, ticked (w .settings) t M) M) M
 step w clockLost M = (accepted, lostClock M)
-step w (fileTaken name body) M = checkStore w (atClock (M .clock) (λ t. takeOutcome (takeFile (w .plant) name body) M) M) M
+step w (fileTaken name body) M = checkStore w (atClock (M .clock) (λ t. takeOutcome t (takeFile (w .plant) name body) M) M) M
 step w (failure kind status) M =
     atClock (M .clock)
     (λ t. check (isStatus status) Cause.Range (accepted, withRequests (failed (w .settings) (lastDigit (w .plant)) kind t status (M .requests)) M) M)

@@ -9,7 +9,7 @@ use lib.Dec.{ltb, eqb}
 use Rattle.rules.specs.Digits.{digits, allAtMost}
 use Rattle.rules.specs.Plant.{Settings, plantId, macAddress, validSettings}
 use Rattle.rules.specs.Name.{Name, parseName, formatOf, anySegment}
-use Rattle.rules.specs.Body.{Record, Body, schedule, parseBody, encodeBody}
+use Rattle.rules.specs.Body.{Record, Body, schedule, parseBody, encodeBody, highestRate}
 use Rattle.rules.specs.File.{idFits, datesHold, ratesHold, checksumsHold, plantsHold, isRegistration, updateDates}
 use Rattle.rules.specs.Table.{Row, row}
 use Rattle.rules.specs.Writer.{Fields, updateRecord, fieldRecords, monthsFit}
@@ -114,7 +114,7 @@ writerRows w room =
     ∷ row Cause.Name (formatBreaks w)  -- 7: 'writer's format not 201 to 203'
     ∷ row Cause.Form (digitsBreak w)  -- 9: 'writer's schedule ID, start or next access not 10, 12 or 14 digits'
     ∷ row Cause.Date (datesBreak w)  -- 10: 'a date or n against the rules above'
-    ∷ row Cause.Rate (not (allAtMost 100 (w .rates)))  -- 11: 'rate above 100'
+    ∷ row Cause.Rate (not (allAtMost highestRate (w .rates)))  -- 11: 'rate above 100'
     ∷ row Cause.Buffer (roomBreaks (bodyFor w) room)  -- 15: 'output longer than the lent buffer'
     ∷ []
 

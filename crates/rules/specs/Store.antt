@@ -6,7 +6,8 @@ use mathlib.Core.Option.{Option, none, some}
 use lib.ListN.{length, take, drop}
 use lib.Dec.{leb, ltb, eqb}
 use Rattle.rules.specs.Digits.{part}
-use Rattle.rules.specs.Calendar.{monthCount, slotsOfMonth, endOfTime}
+use Rattle.rules.specs.Calendar.{slotsOfDay, monthCount, longestMonth, slotsOfMonth, endOfTime}
+use Rattle.rules.specs.Body.{highestRate}
 use Rattle.rules.specs.Plant.{Settings, plantId, macAddress, validSettings, fullCommand}
 
 -- 'The store is 23,808 lent bytes: 16 blocks of 1,488'
@@ -14,7 +15,7 @@ abbrev pub blockCount : ℕ
 blockCount = 16
 
 abbrev pub blockLength : ℕ
-blockLength = 1488
+blockLength = slotsOfDay * longestMonth
 
 abbrev pub storeLength : ℕ
 storeLength = blockCount * blockLength
@@ -30,8 +31,15 @@ abbrev pub toByte : Option ℕ → ℕ
 toByte none = noRate
 toByte (some r) = r
 
+unfoldable pub rateBytes : List ℕ → List ℕ
+rateBytes rates = map (λ r. toByte (some r)) rates
+
 unfoldable pub fromByte : ℕ → Option ℕ
 fromByte x = cond (eqb x noRate) none (some x)
+
+-- 'bytes are 0 to 100 or 255'
+abbrev pub lawfulByte : ℕ → Bool
+lawfulByte x = leb x highestRate || eqb x noRate
 
 -- ---- tests on lists of numbers
 
@@ -97,14 +105,18 @@ soundBlocks free bs =
     && all (λ b. ltb b blockCount) bs
     && allBelow blockCount (λ b. Bool·beq (free b) (not (member b bs)))
 
+-- two days: no wait is longer
+abbrev pub longestWait : ℕ
+longestWait = 172800
+
 -- 'flags 0 to 10 (10 is none), failures 0 to 5, f and u below T + 172,800'
 unfoldable pub soundRequests : Settings → Requests → Bool
 soundRequests s q =
     leb (q .wantedFlag) noFlag
     && leb (q .heldFlag) noFlag
     && leb (q .failures) (retries s)
-    && ltb (q .fixedAt) (endOfTime + 172800)
-    && ltb (q .updateAt) (endOfTime + 172800)
+    && ltb (q .fixedAt) (endOfTime + longestWait)
+    && ltb (q .updateAt) (endOfTime + longestWait)
 
 -- 'clock unset or below T'
 abbrev pub soundClock : Option ℕ → Bool
@@ -127,7 +139,7 @@ soundUnit v =
 -- 'A store is sound when each held block's bytes are 0 to 100 or 255, and 255 past its month's end'
 unfoldable pub soundBlock : ℕ → List ℕ → Bool
 soundBlock m bytes =
-    all (λ x. leb x 100 || eqb x noRate) (take (slotsOfMonth m) bytes)
+    all lawfulByte (take (slotsOfMonth m) bytes)
     && all (λ x. eqb x noRate) (drop (slotsOfMonth m) bytes)
 
 unfoldable pub soundStore : List Held → List ℕ → Bool

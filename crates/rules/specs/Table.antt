@@ -31,12 +31,12 @@ firstOf (r ∷ rs) = cond (r .applies) (some (r .cause)) (firstOf rs)
 
 -- ---- 'The lowest number that applies is given'
 
--- where a cause stands in the order in which the causes are judged: its number. A cause of a later paper may have another place than its number.
-abbrev pub placeOf : Cause → ℕ
-placeOf c = numberOf c
-
 abbrev pub isCause : Cause → Cause → Bool
 isCause c d = eqb (numberOf c) (numberOf d)
+
+-- where a cause stands in the order in which they are judged: its number. A cause of a later paper may have another place.
+abbrev pub placeOf : Cause → ℕ
+placeOf c = numberOf c
 
 -- whether a cause's row applies; a cause that has no row among them never does
 unfoldable pub appliesIn : List Row → Cause → Bool

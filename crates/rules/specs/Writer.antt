@@ -9,7 +9,7 @@ use Rattle.rules.specs.Digits.{allAtMost, digits, decimal}
 use Rattle.rules.specs.Calendar.{exists, monthAt, wholeMinute, firstSlot, slotsOfMonth, monthCount}
 use Rattle.rules.specs.Plant.{plantId}
 use Rattle.rules.specs.Name.{formatOf}
-use Rattle.rules.specs.Body.{Record, schedule, countOf, mostRates, isSchedule, encodeBody}
+use Rattle.rules.specs.Body.{highestRate, Record, schedule, countOf, mostRates, isSchedule, encodeBody}
 use Rattle.rules.specs.File.{monthBegins, updateDates, checksumOf}
 use Rattle.rules.specs.Table.{need}
 use Rattle.rules.specs.declared.Cause.{Cause}
@@ -123,7 +123,7 @@ writeAs room w (some f) =
     need (isSchedule f) (refuse Cause.Name)
     (need (digitsFit f w) (refuse Cause.Form)
     (need (datesFit f w) (refuse Cause.Date)
-    (need (allAtMost 100 (w .rates)) (refuse Cause.Rate)
+    (need (allAtMost highestRate (w .rates)) (refuse Cause.Rate)
     (fitting room (encodeBody (schedule (fieldRecords f w)))))))
 
 unfoldable pub writeBody : Fields → ℕ → Output

@@ -1,7 +1,24 @@
 // What the schedule unit's answers are made of. specs/ says what each one means, rule by rule of document 01.
 
+mod lengths;
 mod numbers;
 
+pub use lengths::BLOCK_COUNT;
+pub use lengths::BLOCK_LENGTH;
+pub use lengths::DAY_COUNT;
+pub use lengths::DAY_LENGTH;
+pub use lengths::END_OF_TIME;
+pub use lengths::FLOOR_LAG;
+pub use lengths::HIGHEST_RATE;
+pub use lengths::LAST_MONTH;
+pub use lengths::LONGEST_MONTH;
+pub use lengths::LONGEST_WAIT;
+pub use lengths::MONTH_COUNT;
+pub use lengths::NO_RATE;
+pub use lengths::SLOT_COUNT;
+pub use lengths::SLOT_LENGTH;
+pub use lengths::SLOTS_OF_DAY;
+pub use lengths::STORE_LENGTH;
 pub use numbers::cause_number;
 pub use numbers::format_number;
 

@@ -9,7 +9,7 @@ use native.Mathlib.Numerals.{add-one}
 use native.Mathlib.Omega.{arith}
 use lib.Dec.{leb, ltb, eqb}
 use borrow.Author.Tests.{lt-ltb, le-ltb, le-leb, eq-eqb, ne-eqb, ltb-true, ltb-false, leb-true, eqb-true, eqb-false}
-use Rattle.rules.specs.Calendar.{firstSlot, monthOfSlot}
+use Rattle.rules.specs.Calendar.{firstSlot, monthOfSlot, slotCount, monthCount}
 use Rattle.rules.specs.Machine.{one, countBelow}
 use Rattle.calendar.proofs.Laws.{first-slot-monotone, first-slot-strict, first-slot-rises, first-slot-end, slot-month-few, slot-month-from, slot-month-until, slot-month-past}
 use Rattle.pool.specs.Blocks.{findOf}
@@ -51,7 +51,7 @@ count-none k t h = count-up 0 k t (omega arith) (λ m _ l. h m l)
 module _ (s n : ℕ) where
   -- the slot before the end of the run, or of 2099
   abbrev last : ℕ
-  last = min (s + n) 1753200 - 1
+  last = min (s + n) slotCount - 1
 
   pub end-none : n ≡ 0 → endMonth s n ≡ 0
   unfolding endMonth
@@ -61,14 +61,14 @@ module _ (s n : ℕ) where
   unfolding endMonth
   end-some e = rw (ne-eqb n 0 e)
 
-  pub end-most : endMonth s n ≤ 1200
+  pub end-most : endMonth s n ≤ monthCount
   end-most = go (eqb n 0) refl
     where
-      go : (t : Bool) → eqb n 0 ≡ t → endMonth s n ≤ 1200
+      go : (t : Bool) → eqb n 0 ≡ t → endMonth s n ≤ monthCount
       go true e = omega (arith, end-none (eqb-true n 0 e))
       go false e =
           let p = eqb-false n 0 e in
-          let h : last < 1753200 = omega arith in
+          let h : last < slotCount = omega arith in
           omega (arith, end-some p, slot-month-few last h)
 
   module _ (m : ℕ) where
@@ -78,33 +78,33 @@ module _ (s n : ℕ) where
         let b = slot-from s in
         le-ltb (max s (firstSlot m)) (min (s + n) (firstSlot (suc m))) (omega arith)
 
-    meets-high : endMonth s n ≤ m → m < 1200 → meets m s n ≡ false
+    meets-high : endMonth s n ≤ m → m < monthCount → meets m s n ≡ false
     meets-high l few = go (eqb n 0) refl
       where
         go : (t : Bool) → eqb n 0 ≡ t → meets m s n ≡ false
         go true e = let z = eqb-true n 0 e in le-ltb (max s (firstSlot m)) (min (s + n) (firstSlot (suc m))) (omega arith)
         go false e =
             let p = eqb-false n 0 e in
-            let h : last < 1753200 = omega arith in
+            let h : last < slotCount = omega arith in
             let k : suc (monthOfSlot last) ≤ m = omega (arith, end-some p) in
             let a = slot-month-until last h in
             let b = first-slot-monotone (suc (monthOfSlot last)) m k in
-            let d = first-slot-strict m 1200 few in
+            let d = first-slot-strict m monthCount few in
             le-ltb (max s (firstSlot m)) (min (s + n) (firstSlot (suc m))) (omega (arith, first-slot-end))
 
     meets-in : monthOfSlot s ≤ m → m < endMonth s n → meets m s n ≡ true
-    meets-in from until = go (eqb n 0) refl (ltb s 1753200) refl
+    meets-in from until = go (eqb n 0) refl (ltb s slotCount) refl
       where
-        go : (t : Bool) → eqb n 0 ≡ t → (u : Bool) → ltb s 1753200 ≡ u → meets m s n ≡ true
+        go : (t : Bool) → eqb n 0 ≡ t → (u : Bool) → ltb s slotCount ≡ u → meets m s n ≡ true
         go true e u f = absurd (omega (arith, end-none (eqb-true n 0 e)))
-        go false e false f = absurd (omega (arith, slot-month-past s (ltb-false s 1753200 f), end-most))
+        go false e false f = absurd (omega (arith, slot-month-past s (ltb-false s slotCount f), end-most))
         go false e true f =
             let p = eqb-false n 0 e in
-            let h : last < 1753200 = omega arith in
+            let h : last < slotCount = omega arith in
             let k : m ≤ monthOfSlot last = omega (arith, end-some p) in
             let a = first-slot-monotone m (monthOfSlot last) k in
             let b = slot-month-from last h in
-            let d = slot-month-until s (ltb-true s 1753200 f) in
+            let d = slot-month-until s (ltb-true s slotCount f) in
             let g = first-slot-monotone (suc (monthOfSlot s)) (suc m) (omega arith) in
             let i = first-slot-rises m in
             lt-ltb (max s (firstSlot m)) (min (s + n) (firstSlot (suc m))) (omega arith)
@@ -126,7 +126,7 @@ module _ (p : Pool) (floor s n : ℕ) where
       go true e = let h = leb-true floor m e in rw (meets-low s n m (omega arith))
       go false e = refl
 
-  needs-high : (m : ℕ) → endMonth s n ≤ m → m < 1200 → needs-block m ≡ false
+  needs-high : (m : ℕ) → endMonth s n ≤ m → m < monthCount → needs-block m ≡ false
   needs-high m l few = rw (meets-high s n m l few) (go (leb floor m))
     where
       go : (t : Bool) → (t && false && isNothing (findOf p m)) ≡ false
@@ -145,4 +145,4 @@ module _ (p : Pool) (floor s n : ℕ) where
 
   pub missing-end : (m : ℕ) → m ≡ endMonth s n → countBelow m needs-block ≡ missing p floor s n
   unfolding missing
-  missing-end m e = rw e (sym (count-up (endMonth s n) 1200 needs-block (end-most s n) (needs-high)))
+  missing-end m e = rw e (sym (count-up (endMonth s n) monthCount needs-block (end-most s n) (needs-high)))

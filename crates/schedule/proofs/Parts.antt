@@ -27,11 +27,11 @@ fill-end to d i v h e = e ∙ rw (h, drop-length d) (append-nil (replicate (leng
 
 -- ---- a copy: what stands below i is copied
 
-pub copy-step : (to from : List ℕ) (i : ℕ) → i < length from → length to ≡ length from → take i to ≡ take i from
-    → take (i + 1) (set to i (getD from i 0)) ≡ take (i + 1) from
-copy-step to from i h e t =
+pub copy-step : (to from : List ℕ) (i v : ℕ) → i < length from → length to ≡ length from → v ≡ getD from i 0 → take i to ≡ take i from
+    → take (i + 1) (set to i v) ≡ take (i + 1) from
+copy-step to from i v h e f t =
     let h′ : i < length to = omega arith in
-    rw (add-one i, take-suc-set to i (getD from i 0) h′, take-suc from i 0 h, t) refl
+    rw (add-one i, take-suc-set to i v h′, take-suc from i 0 h, t, f) refl
 
 pub copy-end : (to from : List ℕ) (i : ℕ) → length from ≤ i → length to ≡ length from → take i to ≡ take i from → to ≡ from
 copy-end to from i h e t = rw (take-all i to (omega arith), take-all i from h) at t

@@ -13,7 +13,7 @@ use lib.ListN.{length, take, drop, length-take}
 use lib.Seq.{sets}
 use borrow.Author.Tests.{eqb-true}
 use Rattle.rules.specs.Calendar.{firstSlot, monthOfSlot, slotCount}
-use Rattle.rules.specs.Store.{storeLength}
+use Rattle.rules.specs.Store.{storeLength, rateBytes, blockCount, blockLength}
 use Rattle.calendar.proofs.Laws.{first-slot-step, days-range}
 use Rattle.pool.specs.Blocks.{isFree, freeCount, given, findOf, takeOf}
 use Rattle.pool.specs.declared.Pool.{Pool}
@@ -28,16 +28,16 @@ use Rattle.schedule.specs.Rates.{storedOf, pieceOf}
 
 -- ---- taking a block
 
-pub take-below : (p : Pool) (m b : ℕ) → takeOf p m .place ≡ In b → b < 16
+pub take-below : (p : Pool) (m b : ℕ) → takeOf p m .place ≡ In b → b < blockCount
 take-below p m b e = ⊎-elim none (λ r. some (take-in p m r)) (eq-zero-or-pos (freeCount p))
   where
-    none : freeCount p ≡ 0 → b < 16
+    none : freeCount p ≡ 0 → b < blockCount
     none z =
         let f : Full ≡ In b = ap (λ (t : Taken). t .place) (sym (take-full p m z)) ∙ e in
         let w : _≡_ {A = ℕ} 0 1 = cc in
         absurd (omega arith)
 
-    some : (a : ℕ) × (a < 16) × (isFree p a ≡ true) × (takeOf p m ≡ record { pool = given p m a; place = In a }) → b < 16
+    some : (a : ℕ) × (a < blockCount) × (isFree p a ≡ true) × (takeOf p m ≡ record { pool = given p m a; place = In a }) → b < blockCount
     some w =
         let f : In (w .0) ≡ In b = ap (λ (t : Taken). t .place) (sym (w .3)) ∙ e in
         let same : w .0 ≡ b = cc in
@@ -65,7 +65,7 @@ module _ (p : Pool) (m : ℕ) (l : List ℕ) where
   open-new e = ap (λ f. openBy f m (storedOf p l)) (sym e)
 
 module _ (p : Pool) (q : Piece) (l : List ℕ) where
-  pub lay-found : (b : ℕ) (after : List ℕ) → findOf p (q .month) ≡ At b → after ≡ sets l (place b (q .from)) (q .rates) → storedOf p after ≡ layPiece q (storedOf p l)
+  pub lay-found : (b : ℕ) (after : List ℕ) → findOf p (q .month) ≡ At b → after ≡ sets l (place b (q .from)) (rateBytes (q .rates)) → storedOf p after ≡ layPiece q (storedOf p l)
   unfolding layPiece
   lay-found b after e f = ap (storedOf p) f ∙ ap (λ x. layBy x q (storedOf p l)) (sym e)
 
@@ -93,7 +93,7 @@ and-none false = refl
 part-count : (s low high : ℕ) → s ≤ low → low < high → (high - s) - (low - s) ≡ high - low
 part-count s low high h k = omega arith
 
-pub part-room : (first low high n : ℕ) → first ≤ low → low < high → high ≤ first + 1488 → n ≤ high - low → (low - first) + n ≤ 1488
+pub part-room : (first low high n : ℕ) → first ≤ low → low < high → high ≤ first + blockLength → n ≤ high - low → (low - first) + n ≤ blockLength
 part-room first low high n a b c d = omega arith
 
 module _ (m s first low high : ℕ) (rates : List ℕ) (f : first ≡ firstSlot m) (l : low ≡ max s first) (h : high ≡ min (s + length rates) (firstSlot (suc m))) where
@@ -105,9 +105,9 @@ module _ (m s first low high : ℕ) (rates : List ℕ) (f : first ≡ firstSlot 
       → after ≡ putPiece floor (pieceOf m (low - first) (take ((high - s) - (low - s)) (drop (low - s) rates))) st → after ≡ putPiece floor (pieceIn m s rates) st
   piece-put floor st after k e = e ∙ ap (λ (q : Piece). putPiece floor q st) (sym (piece-is k))
 
-  pub piece-fits : low < high → (low - first) + length (take ((high - s) - (low - s)) (drop (low - s) rates)) ≤ 1488
+  pub piece-fits : low < high → (low - first) + length (take ((high - s) - (low - s)) (drop (low - s) rates)) ≤ blockLength
   piece-fits k =
-      let end : firstSlot (suc m) ≤ first + 1488 = omega (arith, first-slot-step m, days-range m) in
+      let end : firstSlot (suc m) ≤ first + blockLength = omega (arith, first-slot-step m, days-range m) in
       let count : length (take ((high - s) - (low - s)) (drop (low - s) rates)) ≤ high - low = rw (part-count s low high (omega arith) k, length-take (high - low) (drop (low - s) rates)) (omega arith) in
       part-room first low high (length (take ((high - s) - (low - s)) (drop (low - s) rates))) (omega arith) k (omega arith) count
 

@@ -1,6 +1,6 @@
 -- Laws of a sound store: a scan of bytes, a block, and the blocks one after the other.
 -- Assumes nothing.
-use Prim.Native.Nat.{ℕ, _+_, _-_, _%_, _≤_, _<_, max}
+use Prim.Native.Nat.{ℕ, _+_, _-_, _≤_, _<_, max}
 use mathlib.Core.Path.{_≡_, _∙_, refl, sym, ap}
 use mathlib.Core.Bool.{Bool, true, false, cond, _&&_, _||_}
 use mathlib.Core.List.{List, _∷_}
@@ -10,13 +10,14 @@ use lib.Dec.{leb, eqb}
 use lib.ListN.{length, getD, take, drop, length-take, length-drop}
 use borrow.Author.Tests.{eq-eqb, ne-eqb, le-leb, lt-leb, leb-true, leb-false, eqb-true, eqb-false}
 use Rattle.rules.specs.Calendar.{slotsOfMonth}
-use Rattle.rules.specs.Store.{storeLength, noRate, all, blockOf, soundBlock, soundStore}
+use Rattle.rules.specs.Body.{highestRate}
+use Rattle.rules.specs.Store.{storeLength, noRate, all, blockOf, soundBlock, soundStore, blockCount, lawfulByte}
 use Rattle.digits.proofs.Scan.{all-step, all-end, worst-step, part-rest}
 use Rattle.pool.specs.Blocks.{isFree, monthOf}
 use Rattle.pool.specs.Held.{heldBelow}
 use Rattle.pool.specs.declared.Pool.{Pool}
 use Rattle.schedule.specs.Stored.{storeHolds}
-use Rattle.schedule.specs.Rates.{rateByte, blankByte, placeHolds}
+use Rattle.schedule.specs.Rates.{rankOf, highestRank, blankByte, placeHolds}
 
 -- ---- a scan: the flag says that the bytes below i passed
 
@@ -29,30 +30,30 @@ module _ (test : ℕ → Bool) (s : List ℕ) (i : ℕ) (good : Bool) where
   unfolding all
   scan-end = all-end test (all test) refl (λ x xs. refl) s i good
 
--- a byte is a rate or 255 where its rank is that of a rate
-rank-rate : (x : ℕ) → x < 256 → rateByte x ≡ leb ((x + 1) % 256) 101
-rank-rate x h = go (leb x 100) refl (eqb x noRate) refl
+-- a byte is lawful where its rank is that of a rate
+rank-lawful : (x : ℕ) → x < 256 → lawfulByte x ≡ leb (rankOf x) highestRank
+rank-lawful x h = go (leb x highestRate) refl (eqb x noRate) refl
   where
-    go : (s : Bool) → leb x 100 ≡ s → (t : Bool) → eqb x noRate ≡ t → (s || t) ≡ leb ((x + 1) % 256) 101
-    go true e t f = let k = leb-true x 100 e in sym (le-leb ((x + 1) % 256) 101 (omega arith))
-    go false e true f = let k = eqb-true x noRate f in sym (le-leb ((x + 1) % 256) 101 (omega arith))
+    go : (s : Bool) → leb x highestRate ≡ s → (t : Bool) → eqb x noRate ≡ t → (s || t) ≡ leb (rankOf x) highestRank
+    go true e t f = let k = leb-true x highestRate e in sym (le-leb (rankOf x) highestRank (omega arith))
+    go false e true f = let k = eqb-true x noRate f in sym (le-leb (rankOf x) highestRank (omega arith))
     go false e false f =
-        let k = leb-false x 100 e in
-        let d : x ≡ 255 → ⊥ = eqb-false x noRate f in
-        sym (lt-leb ((x + 1) % 256) 101 (omega arith))
+        let k = leb-false x highestRate e in
+        let d : x ≡ noRate → ⊥ = eqb-false x noRate f in
+        sym (lt-leb (rankOf x) highestRank (omega arith))
 
 -- the scan by the greatest rank
 pub rates-step : (s : List ℕ) (i worst : ℕ) → i < length s → getD s i 0 < 256
-    → (leb worst 101 && all rateByte (drop i s)) ≡ (leb (max worst ((getD s i 0 + 1) % 256)) 101 && all rateByte (drop (i + 1) s))
+    → (leb worst highestRank && all lawfulByte (drop i s)) ≡ (leb (max worst (rankOf (getD s i 0))) highestRank && all lawfulByte (drop (i + 1) s))
 unfolding all
 rates-step s i worst h b =
-    worst-step rateByte (all rateByte) refl (λ x xs. refl) (λ x. (x + 1) % 256) 101 s i worst h (rank-rate (getD s i 0) b)
+    worst-step lawfulByte (all lawfulByte) refl (λ x xs. refl) rankOf highestRank s i worst h (rank-lawful (getD s i 0) b)
 
 -- ---- a block
 
 -- the bytes up to the month's end, and those past it
 pub block-parts : (m end : ℕ) (block : List ℕ) (a b : Bool) → end ≡ slotsOfMonth m
-    → a ≡ all rateByte (take end block) → b ≡ all blankByte (take (length block - end) (drop end block)) → (a && b) ≡ soundBlock m block
+    → a ≡ all lawfulByte (take end block) → b ≡ all blankByte (take (length block - end) (drop end block)) → (a && b) ≡ soundBlock m block
 unfolding soundBlock
 block-parts m end block a b e f g = rw (f, g, part-rest block end, e)
 
@@ -89,7 +90,7 @@ pub store-none : (p : Pool) (store : List ℕ) → true ≡ soundStore (heldBelo
 unfolding heldBelow soundStore
 store-none p store = refl
 
-pub store-end : (p : Pool) (store : List ℕ) (b : ℕ) (good : Bool) → b ≡ 16 → good ≡ soundStore (heldBelow b p) store → length store ≡ storeLength → good ≡ storeHolds p store
+pub store-end : (p : Pool) (store : List ℕ) (b : ℕ) (good : Bool) → b ≡ blockCount → good ≡ soundStore (heldBelow b p) store → length store ≡ storeLength → good ≡ storeHolds p store
 unfolding storeHolds
 store-end p store b good e f h = f ∙ rw (e, eq-eqb (length store) storeLength h)
 

@@ -1,10 +1,11 @@
 -- What the code's answers are in terms of `Stored`: a rate that may be missing, and values put together.
-use Prim.Native.Nat.{ℕ, suc, _+_, _-_, min}
+use Prim.Native.Nat.{ℕ, suc, _+_, _-_, _%_, min}
 use mathlib.Core.Bool.{Bool, cond, _&&_, _||_}
 use mathlib.Core.List.{List}
 use mathlib.Core.Option.{Option, none, some}
 use lib.Dec.{leb, eqb}
 use Rattle.rules.specs.Calendar.{firstSlot, monthOfSlot, slotCount}
+use Rattle.rules.specs.Body.{highestRate}
 use Rattle.rules.specs.Store.{storeLength, noRate, blockOf, soundBlock}
 use Rattle.pool.specs.Blocks.{isFree, monthOf}
 use Rattle.pool.specs.declared.Pool.{Pool}
@@ -30,9 +31,13 @@ abbrev pub canPutCount : ℕ → ℕ → ℕ → Bool
 canPutCount s n bytes =
     eqb bytes storeLength && leb (s + n) slotCount && leb (s + n) (firstSlot (suc (suc (monthOfSlot s))))
 
--- a byte of a month's slot
-abbrev pub rateByte : ℕ → Bool
-rateByte x = leb x 100 || eqb x noRate
+-- a byte's rank where 255 comes first, before 0
+abbrev pub rankOf : ℕ → ℕ
+rankOf x = (x + 1) % 256
+
+-- the rank of the highest rate
+abbrev pub highestRank : ℕ
+highestRank = highestRate + 1
 
 -- a byte past the month's end
 abbrev pub blankByte : ℕ → Bool

@@ -7,7 +7,7 @@ use lib.Dec.{leb, ltb, eqb}
 use lib.ListN.{length, getD, take, drop, replicate}
 use lib.Seq.{sets}
 use Rattle.rules.specs.Calendar.{firstSlot, monthOfSlot, slotCount, monthCount}
-use Rattle.rules.specs.Store.{blockLength, storeLength, noRate, fromByte, soundStore}
+use Rattle.rules.specs.Store.{blockLength, storeLength, noRate, rateBytes, fromByte, soundStore}
 use Rattle.rules.specs.Machine.{countBelow}
 use Rattle.pool.specs.Blocks.{findOf, takeOf}
 use Rattle.pool.specs.Held.{heldOf}
@@ -65,7 +65,7 @@ openMonth m s = openBy (findOf (s .pool) m) m s
 
 -- 'byte i is the rate of its slot i'
 abbrev pub layBy : Found → Piece → Stored → Stored
-layBy (At b) q s = record { pool = s .pool; store = sets (s .store) (place b (q .from)) (q .rates) }
+layBy (At b) q s = record { pool = s .pool; store = sets (s .store) (place b (q .from)) (rateBytes (q .rates)) }
 layBy Nothing q s = s
 
 unfoldable pub layPiece : Piece → Stored → Stored

@@ -6,7 +6,7 @@ ghost use Rattle.rules.specs.Machine.{one};
 ghost use Rattle.pool.specs.Blocks.{findOf};
 ghost use Rattle.schedule.specs.Stored.{isNothing, missing};
 ghost use Rattle.schedule.specs.Rates.{endMonth};
-use crate::layout::SLOTS;
+use crate::layout::SLOT_COUNT;
 use crate::numbers::greater;
 use crate::numbers::lesser;
 use pool::Found;
@@ -29,7 +29,7 @@ fn end_month(slot: u32, count: u32) -> u16
     if count == 0 {
         return 0;
     }
-    let end = lesser(slot as usize + count as usize, SLOTS);
+    let end = lesser(slot as usize + count as usize, SLOT_COUNT);
     calendar::month_of_slot((end - 1) as u32) + 1
 }
 

@@ -2,18 +2,20 @@
 ghost use mathlib.Core.Path.{_≡_};
 ghost use Prim.Native.Nat.{_+_, _^_, _≤_, _<_};
 ghost use lib.ListN.{length, replicate};
-ghost use Rattle.rules.specs.Store.{blockLength, storeLength, noRate};
+ghost use Rattle.rules.specs.Calendar.{monthCount};
+ghost use Rattle.rules.specs.Store.{blockLength, storeLength, noRate, rateBytes};
 ghost use Rattle.schedule.specs.Stored.{openBy, openMonth, layPiece, putPiece, pieceIn, putRun};
 ghost use Rattle.schedule.specs.Rates.{storedOf, pieceOf, canPutCount};
-use crate::layout::BLOCK;
-use crate::layout::NO_RATE;
-use crate::layout::SLOTS;
-use crate::layout::STORE;
+use crate::layout::SLOT_COUNT;
 use crate::numbers::greater;
 use crate::numbers::lesser;
+use crate::rates::byte_of;
 use pool::Found;
 use pool::Place;
 use pool::Pool;
+use rules::BLOCK_LENGTH;
+use rules::NO_RATE;
+use rules::STORE_LENGTH;
 
 // Fills a whole slice with 255.
 fn blank(to: &mut [u8])
@@ -26,14 +28,14 @@ fn blank(to: &mut [u8])
     }
 }
 
-// Copies a whole slice.
-fn copy(to: &mut [u8], from: &[u8])
-    requires { ⌜ length (now to) ≡ length (now from) ⌝ }
-    ensures { λ _. ⌜ now (to .exit) ≡ now (from .entry) ⌝ }
+// Fills a whole slice with the bytes of rates.
+fn lay(to: &mut [u8], rates: &[u8])
+    requires { ⌜ length (now to) ≡ length (now rates) ⌝ }
+    ensures { λ _. ⌜ now (to .exit) ≡ rateBytes (now (rates .entry)) ⌝ }
 {
     let mut i = 0;
-    while i < from.len() {
-        to[i] = from[i];
+    while i < rates.len() {
+        to[i] = byte_of(rates[i]);
         i += 1;
     }
 }
@@ -47,8 +49,8 @@ fn take_block(pool: Pool, month: u16, store: &mut [u8]) -> Pool
     let place = taken.place;
     match place {
         Place::In(b) => {
-            let at = b * BLOCK;
-            let end = at + BLOCK;
+            let at = b * BLOCK_LENGTH;
+            let end = at + BLOCK_LENGTH;
             blank(&mut store[at..end]);
             taken.pool
         }
@@ -74,9 +76,9 @@ fn lay_piece(pool: Pool, month: u16, from: usize, rates: &[u8], store: &mut [u8]
 {
     match pool.find(month) {
         Found::At(b) => {
-            let at = b * BLOCK + from;
+            let at = b * BLOCK_LENGTH + from;
             let end = at + rates.len();
-            copy(&mut store[at..end], rates)
+            lay(&mut store[at..end], rates)
         }
         Found::Nothing => {}
     }
@@ -105,7 +107,7 @@ fn put_piece(
 
 // The part of the rates that lies in the month.
 fn put_month(pool: Pool, floor: u16, month: u16, slot: u32, rates: &[u8], store: &mut [u8]) -> Pool
-    requires { ⌜ (length (now store) ≡ storeLength) × (month ≤ 1201) ⌝ }
+    requires { ⌜ (length (now store) ≡ storeLength) × (month ≤ monthCount + 1) ⌝ }
     ensures { λ r. ⌜ storedOf r (now (store .exit)) ≡ putPiece floor (pieceIn month slot (now (rates .entry))) (storedOf pool (now (store .entry))) ⌝ }
 {
     let start = slot as usize;
@@ -131,7 +133,7 @@ fn can_put(slot: u32, count: usize, bytes: usize) -> bool
 {
     let end = slot as usize + count;
     let month = calendar::month_of_slot(slot);
-    (bytes == STORE) & (end <= SLOTS) & (end <= calendar::first_slot(month + 2) as usize)
+    (bytes == STORE_LENGTH) & (end <= SLOT_COUNT) & (end <= calendar::first_slot(month + 2) as usize)
 }
 
 // Puts the rates of consecutive slots, from a slot on, into the blocks of their months; what cannot be put changes nothing.

@@ -1,18 +1,26 @@
-// The rate of a slot: the byte of its month's block.
+// A rate and its byte, and the rate of a slot: the byte of its month's block.
 ghost use mathlib.Core.Path.{_≡_};
+ghost use mathlib.Core.Option.{some};
 ghost use lib.ListN.{getD};
-ghost use Rattle.rules.specs.Store.{noRate, fromByte};
+ghost use Rattle.rules.specs.Store.{noRate, toByte, fromByte};
 ghost use Rattle.schedule.specs.Stored.{storedRate};
 ghost use Rattle.schedule.specs.Rates.{rateOption};
-use crate::layout::BLOCK;
-use crate::layout::NO_RATE;
 use pool::Found;
 use pool::Pool;
+use rules::BLOCK_LENGTH;
+use rules::NO_RATE;
 
 // The rate of a slot, where a file gave one.
 pub enum StoredRate {
     Rate(u8),
     NoRate,
+}
+
+// A rate as a byte of the store.
+pub fn byte_of(rate: u8) -> u8
+    ensures { λ r. ⌜ r ≡ toByte (some rate) ⌝ }
+{
+    rate
 }
 
 // A byte of the store as a rate.
@@ -41,7 +49,7 @@ pub fn rate_at(pool: Pool, store: &[u8], slot: u32) -> StoredRate
     match pool.find(month) {
         Found::At(b) => {
             let i = (slot - calendar::first_slot(month)) as usize;
-            rate_of(byte_at(store, b * BLOCK + i))
+            rate_of(byte_at(store, b * BLOCK_LENGTH + i))
         }
         Found::Nothing => StoredRate::NoRate,
     }

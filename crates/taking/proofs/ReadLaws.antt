@@ -178,15 +178,15 @@ module _ (plant name body : List ℕ) (f : File) (read : takeFile plant name bod
       run = subst (λ (rs : List Record). RunFrom (x .start) rs) (sym records-are) (subst (λ (k : ℕ). RunFrom k (recordsIn (f .body))) (sym start-is) (taken-good plant name body f read));
     }
 
-    pub requests-are : (q : RequestValues) → takeSummary (x .format) x q ≡ takeBy (f .name .format) (f .name) (recordsIn (f .body)) q
+    pub requests-are : (t : ℕ) (q : RequestValues) → takeSummary t (x .format) x q ≡ takeBy t (f .name .format) (f .name) (recordsIn (f .body)) q
     unfolding summaryOf
-    requests-are q = ap (λ (y : Summary). takeSummary (y .format) y q) e ∙ go (f .name .format) refl
+    requests-are t q = ap (λ (y : Summary). takeSummary t (y .format) y q) e ∙ go (f .name .format) refl
       where
         segment : digits 4 (f .name .segment) ≡ true
         segment = digits-of (f .name) (lawful-facts (some plant) f (taken-exactly plant name body f .0 read .0 .fields) .0 .name)
 
-        go : (k : Format) → f .name .format ≡ k → takeSummary k (summaryOf f) q ≡ takeBy k (f .name) (recordsIn (f .body)) q
+        go : (k : Format) → f .name .format ≡ k → takeSummary t k (summaryOf f) q ≡ takeBy t k (f .name) (recordsIn (f .body)) q
         go F201 k = ap (λ (d : ℕ). takeYear d q) (sym (segment-digit (f .name .segment) segment))
         go F202 k = refl
-        go F203 k = ap (λ (z : Format). takeUpdate (flagOf (recordsIn (f .body))) (accessOf z (recordsIn (f .body))) q) k
+        go F203 k = ap (λ (z : Format). takeUpdate t (flagOf (recordsIn (f .body))) (accessOf z (recordsIn (f .body))) q) k
         go F301 k = refl

@@ -1,18 +1,18 @@
 -- What take_file answers and leaves at each of its returns. Assumes nothing.
 use Prim.Native.Nat.{ℕ, _-_, _≤_, _<_}
-use mathlib.Core.Path.{_≡_, _∙_, refl, sym, ap}
+use mathlib.Core.Path.{_≡_, _∙_, refl, ap}
 use mathlib.Core.Bool.{Bool, true, false, _&&_}
 use mathlib.Core.List.{List}
-use lib.Dec.{eqb, ltb}
+use lib.Dec.{ltb}
 use lib.ListN.{length, take, drop}
 use borrow.Author.Tests.{eq-eqb, ne-eqb, lt-ltb, le-ltb}
 use Rattle.rules.specs.Body.{Record}
-use Rattle.rules.specs.File.{File, refuse, file, takeFile, recordsIn}
+use Rattle.rules.specs.File.{File, file, takeFile, recordsIn}
 use Rattle.rules.specs.Machine.{takeBy}
 use Rattle.rules.specs.Store.{storeLength}
 use Rattle.rules.specs.declared.Cause.{Cause}
 use Rattle.body.specs.Walk.{recordsFrom}
-use Rattle.rules.specs.Reading.{summaryOf, readingOf}
+use Rattle.rules.specs.Reading.{readingOf}
 use Rattle.rules.specs.Table.{firstOf}
 use Rattle.rules.specs.declared.Summary.{Summary}
 use Rattle.rules.specs.declared.Reading.the-variants.{Read, Refused}
@@ -21,11 +21,11 @@ use Rattle.pool.specs.declared.Pool.{Pool}
 use Rattle.schedule.specs.Stored.{Stored, storeHolds, missing}
 use Rattle.schedule.specs.Rates.{storedOf}
 use Rattle.about_store.specs.Run.{runStart, runLength, putRecords}
-use Rattle.polling.specs.Requests.{requestsOf, requestsFrom}
+use Rattle.polling.specs.Requests.{requestsOf}
 use Rattle.polling.specs.declared.Requests.{Requests}
 use Rattle.unit.specs.Values.{isSound}
 use Rattle.unit.specs.Rows.{isUnset}
-use Rattle.unit.specs.Calls.{refusal}
+use Rattle.unit.specs.Calls.{refusal, clockTime}
 use Rattle.taking.specs.Taken.{fullRow, withFile, takeOf, storeAfterTake}
 use Rattle.taking.specs.Taking.{Following, takeSummary, filed}
 use Rattle.unit.specs.declared.Unit.{Unit}
@@ -75,11 +75,11 @@ module _ (u : Unit) (store name body : List ℕ) where
 
           put : fullRow f u .applies ≡ false → (p : Pool) (after : List ℕ) (q : Requests)
               → storedOf p after ≡ putRecords (u .floor) (recordsIn (f .body)) (storedOf (u .pool) store)
-              → requestsOf q ≡ takeBy (f .name .format) (f .name) (recordsIn (f .body)) (requestsOf (u .requests))
+              → requestsOf q ≡ takeBy t (f .name .format) (f .name) (recordsIn (f .body)) (requestsOf (u .requests))
               → Takes (filed u p q) after
           unfolding takeOf storeAfterTake firstOf withFile
           put g p after q k h = (
-            rw (eq-eqb (length store) storeLength long, lent-row u store true long good, ap isUnset set, e, g, ← k, ← h) refl,
+            rw (eq-eqb (length store) storeLength long, lent-row u store true long good, ap isUnset set, e, g, ap clockTime set, ← k, ← h) refl,
             rw (eq-eqb (length store) storeLength long, lent-row u store true long good, ap isUnset set, e, g) (ap (λ (s : Stored). s .store) k),
           )
 
@@ -101,13 +101,13 @@ module _ (u : Unit) (store name body : List ℕ) where
 
             pub take-done : needed ≤ free → (p : Pool) (after : List ℕ) (q : Requests)
                 → storedOf p after ≡ putRecords (u .floor) (recordsFrom (x .format) (x .records) (take (length body - 6) (drop 6 body))) (storedOf (u .pool) store)
-                → requestsOf q ≡ takeSummary (x .format) x (requestsOf (u .requests))
+                → requestsOf q ≡ takeSummary t (x .format) x (requestsOf (u .requests))
                 → Takes (filed u p q) after
             take-done h p after q k m =
                 let r = read in
                 put (r .the-file) (r .is) (room false (le-ltb free needed h)) p after q
                 (k ∙ ap (λ (rs : List Record). putRecords (u .floor) rs (storedOf (u .pool) store)) (records-are _ _ _ (r .the-file) (r .is) x (r .summary)))
-                (m ∙ requests-are _ _ _ (r .the-file) (r .is) x (r .summary) (requestsOf (u .requests)))
+                (m ∙ requests-are _ _ _ (r .the-file) (r .is) x (r .summary) t (requestsOf (u .requests)))
 
 -- a body that is read has its count, and its records follow each other
 module _ (plant name body : List ℕ) (x : Summary) (got : readingOf (takeFile plant name body) ≡ Read x) where

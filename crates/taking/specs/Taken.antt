@@ -13,7 +13,7 @@ use Rattle.schedule.specs.Stored.{missing}
 use Rattle.about_store.specs.Run.{runStart, runLength, putRecords}
 use Rattle.polling.specs.Requests.{requestsOf, requestsFrom}
 use Rattle.unit.specs.Rows.{lengthRow, soundRow, clockRow}
-use Rattle.unit.specs.Calls.{doneBy}
+use Rattle.unit.specs.Calls.{doneBy, clockTime}
 use Rattle.unit.specs.declared.Unit.{Unit}
 use Rattle.unit.specs.declared.Done.{Done}
 
@@ -32,7 +32,7 @@ unfoldable pub withFile : File → List ℕ → Unit → Unit
 withFile f store u = record {
   plant = u .plant;
   pool = putRecords (u .floor) (recordsIn (f .body)) (record { pool = u .pool; store = store }) .pool;
-  requests = requestsFrom (takeBy (f .name .format) (f .name) (recordsIn (f .body)) (requestsOf (u .requests)));
+  requests = requestsFrom (takeBy (clockTime (u .clock)) (f .name .format) (f .name) (recordsIn (f .body)) (requestsOf (u .requests)));
   clock = u .clock;
   floor = u .floor;
   command = u .command;

@@ -21,12 +21,12 @@ pub record Following (f : Format) (k slot : ℕ) (t : List ℕ) : Type 0 where
   pub form : shaped f k t ≡ true
   pub run : RunFrom slot (recordsFrom f k t)
 
--- what a file brings to the requests, by its summary: '201: h becomes the segment's last digit', '203: .. its flag', '202: nothing more'
-abbrev pub takeSummary : Format → Summary → RequestValues → RequestValues
-takeSummary F201 x q = takeYear (x .segment % 10) q
-takeSummary F202 x q = q
-takeSummary F203 x q = takeUpdate (x .flag) (x .«next_access») q
-takeSummary F301 x q = q
+-- what a file brings to the requests at that clock, by its summary: '201: h becomes the segment's last digit', '203: .. its flag', '202: nothing more'
+abbrev pub takeSummary : ℕ → Format → Summary → RequestValues → RequestValues
+takeSummary clock F201 x q = takeYear (x .segment % 10) q
+takeSummary clock F202 x q = q
+takeSummary clock F203 x q = takeUpdate clock (x .flag) (x .«next_access») q
+takeSummary clock F301 x q = q
 
 -- the unit with this pool and these requests, and the file accepted
 abbrev pub filed : Unit → Pool → Requests → Done

@@ -17,15 +17,15 @@ use unit::Unit;
 // 'A body is a 6-digit record count, then the records'.
 const RECORDS: usize = 6;
 
-// What is due after the file, by its format.
-fn take_requests(old: Requests, summary: Summary) -> Requests
-    ensures { λ r. ⌜ requestsOf r ≡ takeSummary (summary .format) summary (requestsOf old) ⌝ }
+// What is due after the file, by its format and the clock.
+fn take_requests(clock: u32, old: Requests, summary: Summary) -> Requests
+    ensures { λ r. ⌜ requestsOf r ≡ takeSummary clock (summary .format) summary (requestsOf old) ⌝ }
 {
     let format = summary.format;
     match format {
         Format::F201 => old.take_year((summary.segment % 10) as u8),
         Format::F202 => old,
-        Format::F203 => old.take_update(summary.flag, summary.next_access),
+        Format::F203 => old.take_update(clock, summary.flag, summary.next_access),
         Format::F301 => old,
     }
 }
@@ -64,7 +64,7 @@ pub fn take_file(unit: Unit, name: &[u8], body: &[u8], store: &mut [u8]) -> Done
         return unit.refuse(Cause::Unsound);
     }
     let clock = unit.clock;
-    let Clock::At(_) = clock else {
+    let Clock::At(t) = clock else {
         return unit.refuse(Cause::ClockUnset);
     };
     let id = plant.id;
@@ -85,7 +85,7 @@ pub fn take_file(unit: Unit, name: &[u8], body: &[u8], store: &mut [u8]) -> Done
                 &body[RECORDS..],
                 store,
             );
-            filed(unit, pool, take_requests(old, summary))
+            filed(unit, pool, take_requests(t, old, summary))
         }
     }
 }

@@ -34,12 +34,14 @@ use Rattle.rules.specs.Machine.{
   countBelow,
   heldCount,
   setClock,
+  orZero,
   approach,
   moveCommand,
   second,
   seconds,
   ticked,
   lostClock,
+  updateTime,
   takeUpdate,
   withFile,
   windowStart,
@@ -301,7 +303,7 @@ takeExample = fileTaken (name F203 0) example10
 -- the machine after a file that reads well; the list of calls is too long to compute where months are counted
 abbrev taking : Outcome → Machine → Machine
 taking (refuse c) M = M
-taking (file f) M = withFile f M
+taking (file f) M = withFile (orZero (M .clock)) f M
 
 -- at 10:00 of 27 March, with example 10 taken
 afternoon : Machine
@@ -441,5 +443,5 @@ unfolding allHold histories numbersOf takeTwo takeMonths heldCount months correc
     ratesOf sizeOf recordShape recordAt parseRecords parseRegistration counted parseBody encodeRecord encodeRecords encodeBody every
     readFile takeFile stages updateDates datesHold ratesHold sum checksumOf checksumsHold plantsHold
     freshMachine rateIn lastRate rateOf anyRecord anyFile isHeld countBelow setClock approach moveCommand second seconds ticked lostClock
-    takeUpdate withFile windowStart inWindow nextWindow failedUpdate failedFixed withRequests dueOf step replies
+    updateTime takeUpdate withFile windowStart inWindow nextWindow failedUpdate failedFixed withRequests dueOf step replies
 histories-hold = refl

@@ -4,6 +4,7 @@ use mathlib.Core.Path.{_≡_, ap}
 use mathlib.Core.Bool.{Bool, true, false, _&&_, and-assoc}
 use mathlib.Core.List.{map}
 use lib.Dec.{leb, ltb}
+use Rattle.rules.specs.Calendar.{monthCount}
 use Rattle.rules.specs.Plant.{lastDigit}
 use Rattle.rules.specs.Store.{soundUnit, soundMonths, soundBlocks, soundRequests, soundClock, freshRequests}
 use Rattle.rules.specs.Machine.{failed, isStatus}
@@ -30,7 +31,7 @@ use Rattle.unit.specs.declared.Clock.the-variants.{Unset, At}
 pub sound-is : (u : Unit)
     → isSound u
     ≡ (validPlant (u .plant)
-    && ltb (u .floor) 1200
+    && ltb (u .floor) monthCount
     && soundPool (u .pool) (u .floor)
     && soundRequests (settingsOf (u .plant)) (requestsOf (u .requests))
     && soundClock (clockOf (u .clock))
@@ -40,7 +41,7 @@ sound-is u =
     let months = soundMonths (u .floor) (map (λ h. h .month) (heldOf (u .pool))) in
     let blocks = soundBlocks (isFree (u .pool)) (map (λ h. h .block) (heldOf (u .pool))) in
     ap (λ (b : Bool). b && soundRequests (settingsOf (u .plant)) (requestsOf (u .requests)) && soundClock (clockOf (u .clock)) && leb (u .command) (6000 * u .plant .settings .minutes))
-    (and-assoc (validPlant (u .plant) && ltb (u .floor) 1200) months blocks)
+    (and-assoc (validPlant (u .plant) && ltb (u .floor) monthCount) months blocks)
 
 -- the fresh unit, with requests that are the fresh ones
 pub fresh-is : (p : Plant) (q : Requests) → q ≡ requestsFrom freshRequests

@@ -12,8 +12,9 @@ use lib.Dec.{leb, ltb, eqb}
 use lib.ListN.{getD, take, drop}
 use lib.Seq.{getD-take, getD-drop}
 use borrow.Author.Tests.{lt-ltb, le-ltb, ltb-true, leb-true}
-use Rattle.rules.specs.Calendar.{slotOf, monthOf as monthOfSecond, monthOfSlot, firstSlot, slotsOfMonth}
-use Rattle.rules.specs.Store.{noRate, fromByte, all, blockOf, soundBlock, soundStore}
+use Rattle.rules.specs.Calendar.{slotOf, monthOf as monthOfSecond, monthOfSlot, firstSlot, slotsOfMonth, slotLength, slotCount}
+use Rattle.rules.specs.Body.{highestRate}
+use Rattle.rules.specs.Store.{noRate, fromByte, all, blockOf, soundBlock, soundStore, blockCount, blockLength, lawfulByte}
 use Rattle.rules.specs.Machine.{raisedFloor, orZero}
 use Rattle.calendar.proofs.Laws.{days-range, first-slot-step, slot-month-from, slot-month-until, slot-month-monotone, month-slot}
 use Rattle.pool.specs.Below.{sumBelow, number, tick}
@@ -33,9 +34,9 @@ unfolding sumBelow
 number-same zero s t h = refl
 number-same (suc k) s t h = ap₂ (λ (x : Bool) (y : ℕ). tick x * 2 ^ k + y) (h k (omega arith)) (number-same k s t (λ b l. h b (omega arith)))
 
-free-released : (p : Pool) (floor b : ℕ) → b < 16 → isFree (releaseOf p floor) b ≡ freeAfter p floor b
+free-released : (p : Pool) (floor b : ℕ) → b < blockCount → isFree (releaseOf p floor) b ≡ freeAfter p floor b
 unfolding releaseOf
-free-released p floor b l = bit-number 16 (freeAfter p floor) b l
+free-released p floor b l = bit-number blockCount (freeAfter p floor) b l
 
 months-released : (p : Pool) (floor b : ℕ) → monthOf (releaseOf p floor) b ≡ monthOf p b
 unfolding releaseOf
@@ -55,7 +56,7 @@ pub release-release : (p : Pool) (f g : ℕ) → f ≤ g → releaseOf (releaseO
 unfolding releaseOf
 release-release p f g l =
     ap (λ (n : ℕ). record { months = p .months; free = n })
-    (number-same 16 _ (freeAfter p g)
+    (number-same blockCount _ (freeAfter p g)
     (λ b h. ap (λ (x : Bool). x || ltb (monthOf p b) g) (free-released p f b h) ∙ or-below (isFree p b) (monthOf p b) f g l))
 
 -- ---- what is found
@@ -86,7 +87,7 @@ find-released p old floor m s above = go (findOf p m) refl
 -- ---- floor and seconds
 
 pub month-monotone : (s t : ℕ) → s ≤ t → monthOfSecond s ≤ monthOfSecond t
-month-monotone s t l = let d : s / 1800 ≤ t / 1800 = omega arith in rw (month-slot s, month-slot t) (slot-month-monotone (s / 1800) (t / 1800) d)
+month-monotone s t l = let d : s / slotLength ≤ t / slotLength = omega arith in rw (month-slot s, month-slot t) (slot-month-monotone (s / slotLength) (t / slotLength) d)
 
 -- the floor of a later second does not look at an earlier one
 pub floor-again : (f s t : ℕ) → s ≤ t → raisedFloor (raisedFloor f s) t ≡ raisedFloor f t
@@ -105,7 +106,7 @@ rate-released p store floor s t sound l =
 -- ---- the store
 
 module _ (p : Pool) (floor : ℕ) (store : List ℕ) where
-  store-below : (k : ℕ) → k ≤ 16 → soundStore (heldBelow k p) store ≡ true → soundStore (heldBelow k (releaseOf p floor)) store ≡ true
+  store-below : (k : ℕ) → k ≤ blockCount → soundStore (heldBelow k p) store ≡ true → soundStore (heldBelow k (releaseOf p floor)) store ≡ true
   unfolding heldBelow soundStore
   store-below zero l e = refl
   store-below (suc k) l e =
@@ -126,7 +127,7 @@ module _ (p : Pool) (floor : ℕ) (store : List ℕ) where
 
   -- a sound store is sound with what is left
   pub store-released : soundStore (heldOf p) store ≡ true → soundStore (heldOf (releaseOf p floor)) store ≡ true
-  store-released = store-below 16 (omega arith)
+  store-released = store-below blockCount (omega arith)
 
 -- a held block of a sound store is sound
 pub held-block : (p : Pool) (store : List ℕ) (k b : ℕ) → b < k → isFree p b ≡ false → soundStore (heldBelow k p) store ≡ true
@@ -151,7 +152,7 @@ all-at test [] i d t e = t
 all-at test (x ∷ l) zero d t e = and-true (test x) (all test l) e .0
 all-at test (x ∷ l) (suc i) d t e = all-at test l i d t (and-true (test x) (all test l) e .1)
 
-byte-legal : (x : ℕ) → (leb x 100 || eqb x noRate) ≡ true → orZero (fromByte x) ≤ 100
+byte-legal : (x : ℕ) → lawfulByte x ≡ true → orZero (fromByte x) ≤ highestRate
 unfolding fromByte
 byte-legal x e = go (eqb x noRate) e
   where
@@ -159,33 +160,33 @@ byte-legal x e = go (eqb x noRate) e
     left true f = refl
     left false f = f
 
-    go : (t : Bool) → (leb x 100 || t) ≡ true → orZero (cond t none (some x)) ≤ 100
+    go : (t : Bool) → (leb x highestRate || t) ≡ true → orZero (cond t none (some x)) ≤ highestRate
     go true f = zero-le
-    go false f = leb-true x 100 (left (leb x 100) f)
+    go false f = leb-true x highestRate (left (leb x highestRate) f)
 
 -- the bytes of a sound block's slots are rates, or none
-pub block-legal : (store : List ℕ) (m b i : ℕ) → i < slotsOfMonth m → soundBlock m (blockOf store b) ≡ true → orZero (fromByte (getD store (place b i) noRate)) ≤ 100
+pub block-legal : (store : List ℕ) (m b i : ℕ) → i < slotsOfMonth m → soundBlock m (blockOf store b) ≡ true → orZero (fromByte (getD store (place b i) noRate)) ≤ highestRate
 unfolding soundBlock
 block-legal store m b i l e =
     let days = days-range m .1 in
-    let rates = and-true (all (λ x. leb x 100 || eqb x noRate) (take (slotsOfMonth m) (blockOf store b))) (all (λ x. eqb x noRate) (drop (slotsOfMonth m) (blockOf store b))) e .0 in
+    let rates = and-true (all lawfulByte (take (slotsOfMonth m) (blockOf store b))) (all (λ x. eqb x noRate) (drop (slotsOfMonth m) (blockOf store b))) e .0 in
     let same : getD (take (slotsOfMonth m) (blockOf store b)) i noRate ≡ getD store (place b i) noRate =
     getD-take (slotsOfMonth m) (blockOf store b) i noRate l
-    ∙ getD-take 1488 (drop (b * 1488) store) i noRate (omega arith)
-    ∙ getD-drop (b * 1488) store i noRate in
-    byte-legal (getD store (place b i) noRate) (rw same at (all-at (λ x. leb x 100 || eqb x noRate) (take (slotsOfMonth m) (blockOf store b)) i noRate refl rates))
+    ∙ getD-take blockLength (drop (b * blockLength) store) i noRate (omega arith)
+    ∙ getD-drop (b * blockLength) store i noRate in
+    byte-legal (getD store (place b i) noRate) (rw same at (all-at lawfulByte (take (slotsOfMonth m) (blockOf store b)) i noRate refl rates))
 
 -- a sound store gives no rate above 100
-pub rate-legal : (p : Pool) (store : List ℕ) (s : ℕ) → s < 1753200 → soundStore (heldOf p) store ≡ true → orZero (storedRate p store s) ≤ 100
+pub rate-legal : (p : Pool) (store : List ℕ) (s : ℕ) → s < slotCount → soundStore (heldOf p) store ≡ true → orZero (storedRate p store s) ≤ highestRate
 unfolding storedRate
 rate-legal p store s l e = go (findOf p (monthOfSlot s)) refl
   where
-    go : (r : Found) → findOf p (monthOfSlot s) ≡ r → orZero (rateFound r store (s - firstSlot (monthOfSlot s))) ≤ 100
+    go : (r : Found) → findOf p (monthOfSlot s) ≡ r → orZero (rateFound r store (s - firstSlot (monthOfSlot s))) ≤ highestRate
     go Nothing f = zero-le
     go (At b) f =
         let m = monthOfSlot s in
         let i = find-at p m b f in
-        let sound : soundBlock m (blockOf store b) ≡ true = rw (i .month) at (held-block p store 16 b (i .below) (i .used) e) in
+        let sound : soundBlock m (blockOf store b) ≡ true = rw (i .month) at (held-block p store blockCount b (i .below) (i .used) e) in
         let from = slot-month-from s l in
         let until = slot-month-until s l in
         let step = first-slot-step m in

@@ -6,7 +6,7 @@ use mathlib.Core.Path.{_≡_, _∙_, sym, ap, ap₂}
 use mathlib.Core.Bool.{true}
 use mathlib.Core.List.{List}
 use borrow.Author.Tests.{lt-ltb, le-leb, ltb-true, leb-true}
-use Rattle.rules.specs.Calendar.{slotOf, endOfTime}
+use Rattle.rules.specs.Calendar.{slotOf, endOfTime, monthCount}
 use Rattle.rules.specs.Plant.{fullCommand}
 use Rattle.rules.specs.Machine.{raisedFloor, target, orZero, approach}
 use Rattle.calendar.proofs.Laws.{slot-month-few, month-slot}
@@ -114,13 +114,13 @@ module _ (u : Unit) (store : List ℕ) (good : SoundWith u store) where
   unfolding setClock withCommand
   jumped-sound t x l h =
       let s = sound-parts u (good .unit) in
-      let floor = ltb-true (u .floor) 1200 (s .floor) in
+      let floor = ltb-true (u .floor) monthCount (s .floor) in
       let month = slot-month-few (slotOf t) (omega arith) in
       let m = month-slot t in
       record {
         unit = parts-sound (jumped u t x) (record {
           plant = s .plant;
-          floor = lt-ltb (raisedFloor (u .floor) t) 1200 (omega arith);
+          floor = lt-ltb (raisedFloor (u .floor) t) monthCount (omega arith);
           pool = facts-pool (releaseOf (u .pool) (raisedFloor (u .floor) t)) (raisedFloor (u .floor) t)
               (released-sound (u .pool) (raisedFloor (u .floor) t) (u .floor) (pool-facts (u .pool) (u .floor) (s .pool)));
           requests = s .requests;

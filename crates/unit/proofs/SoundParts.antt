@@ -4,6 +4,7 @@ use mathlib.Core.Path.{_≡_, _∙_, sym}
 use mathlib.Core.Bool.{true, _&&_}
 use mathlib.Core.List.{List}
 use lib.Dec.{leb, ltb}
+use Rattle.rules.specs.Calendar.{monthCount}
 use Rattle.rules.specs.Store.{soundRequests, soundClock, soundStore}
 use Rattle.plant.specs.Plant.{settingsOf, validPlant}
 use Rattle.pool.specs.Held.{heldOf, soundPool}
@@ -15,7 +16,7 @@ use Rattle.unit.proofs.CallLaws.{sound-is}
 
 pub record SoundParts (u : Unit) : Type 0 where
   pub plant : validPlant (u .plant) ≡ true
-  pub floor : ltb (u .floor) 1200 ≡ true
+  pub floor : ltb (u .floor) monthCount ≡ true
   pub pool : soundPool (u .pool) (u .floor) ≡ true
   pub requests : soundRequests (settingsOf (u .plant)) (requestsOf (u .requests)) ≡ true
   pub clock : soundClock (clockOf (u .clock)) ≡ true
@@ -24,7 +25,7 @@ pub record SoundParts (u : Unit) : Type 0 where
 pub sound-parts : (u : Unit) → isSound u ≡ true → SoundParts u
 sound-parts u e =
     let v = validPlant (u .plant) in
-    let f = ltb (u .floor) 1200 in
+    let f = ltb (u .floor) monthCount in
     let p = soundPool (u .pool) (u .floor) in
     let q = soundRequests (settingsOf (u .plant)) (requestsOf (u .requests)) in
     let k = soundClock (clockOf (u .clock)) in

@@ -5,8 +5,8 @@ use mathlib.Core.List.{List}
 use mathlib.Core.Option.{Option, none, some}
 use lib.ListN.{replicate}
 use Rattle.rules.specs.Plant.{Settings}
-use Rattle.rules.specs.Store.{Values, soundUnit, freshRequests}
-use Rattle.pool.specs.Blocks.{isFree}
+use Rattle.rules.specs.Store.{Values, soundUnit, freshRequests, blockCount}
+use Rattle.pool.specs.Blocks.{isFree, allFree}
 use Rattle.pool.specs.Held.{heldOf}
 use Rattle.pool.specs.declared.Pool.{Pool}
 use Rattle.plant.specs.Plant.{settingsOf, installed}
@@ -37,9 +37,9 @@ valuesOf u = record {
 unfoldable pub isSound : Unit → Bool
 isSound u = soundUnit (valuesOf u)
 
--- a pool with all sixteen blocks free
+-- a pool with all blocks free
 abbrev pub freshPool : Pool
-freshPool = record { months = replicate 16 0; free = 65535 }
+freshPool = record { months = replicate blockCount 0; free = allFree }
 
 -- 'Fresh values in brackets': clock unset, floor 0, no file, flags none, all else 0
 unfoldable pub freshUnit : Plant → Unit

@@ -10,7 +10,7 @@ use rules::Ceiling;
 use schedule::StoredRate;
 
 // 'Slot not below 1,753,200'.
-const SLOTS: u64 = 36525 * 48;
+const SLOT_COUNT: u64 = rules::SLOT_COUNT as u64;
 
 impl Unit {
     fn ceiling_answer(self, slot: u64, store: &[u8]) -> Ceiling
@@ -28,7 +28,7 @@ impl Unit {
         let Clock::At(_) = clock else {
             return Ceiling::Refused(Cause::ClockUnset);
         };
-        if SLOTS <= slot {
+        if SLOT_COUNT <= slot {
             return Ceiling::Refused(Cause::Range);
         }
         match schedule::rate_at(pool, store, slot as u32) {

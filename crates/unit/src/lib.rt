@@ -13,14 +13,18 @@ mod tick;
 use plant::GivenSettings;
 use plant::Plant;
 use polling::Requests;
+use pool::ALL_FREE;
 use pool::Pool;
 use rules::Answer;
+use rules::BLOCK_COUNT;
 use rules::Cause;
 use rules::Ceiling;
 use rules::Command;
 use rules::Due;
+use rules::END_OF_TIME;
 use rules::FreeBlocks;
 use rules::Kind;
+use rules::MONTH_COUNT;
 use rules::Written;
 
 // The clock: unset, or at a second.
@@ -77,17 +81,8 @@ pub struct Installed {
     pub unit: Unit,
 }
 
-// 'floor is at most 1199'.
-const MONTHS: u16 = 1200;
-
-// T, 3,155,760,000.
-const END_OF_TIME: u32 = 36525 * 86400;
-
 // 'command at most 6,000 × N'.
 const FULL_COMMAND: u64 = 6000;
-
-// A pool with sixteen free blocks.
-const ALL_FREE: u16 = 65535;
 
 impl Clock {
     fn sound(self) -> bool
@@ -107,7 +102,7 @@ fn fresh(plant: Plant) -> Unit
     Unit {
         plant,
         pool: Pool {
-            months: [0u16; 16],
+            months: [0u16; BLOCK_COUNT],
             free: ALL_FREE,
         },
         requests: Requests::fresh(),
@@ -119,11 +114,11 @@ fn fresh(plant: Plant) -> Unit
 
 impl Unit {
     // The lengths that belong to a unit: 16 blocks of 1,488 bytes.
-    pub const BLOCK_COUNT: usize = 16;
+    pub const BLOCK_COUNT: usize = rules::BLOCK_COUNT;
 
-    pub const BLOCK_LENGTH: usize = 1488;
+    pub const BLOCK_LENGTH: usize = rules::BLOCK_LENGTH;
 
-    pub const STORE_LENGTH: usize = Unit::BLOCK_COUNT * Unit::BLOCK_LENGTH;
+    pub const STORE_LENGTH: usize = rules::STORE_LENGTH;
 
     // The fresh unit of these values, or cause 1 or 2.
     pub fn install(id: &[u8], mac: &[u8], given: GivenSettings) -> Installed
@@ -147,7 +142,7 @@ impl Unit {
         let requests = self.requests;
         let clock = self.clock;
         plant.valid()
-            & (self.floor < MONTHS)
+            & (self.floor < MONTH_COUNT)
             & pool.sound(self.floor)
             & requests.sound(plant.settings)
             & clock.sound()

@@ -1,21 +1,34 @@
 // The tick: the clock, the floor month and the command, over any number of seconds at once.
 ghost use mathlib.Core.Path.{_≡_};
-ghost use Rattle.rules.specs.Machine.{raisedFloor};
+ghost use Prim.Native.Nat.{_-_};
+ghost use Rattle.rules.specs.Machine.{floorLag, raisedFloor};
 ghost use Rattle.unit.specs.Calls.{setClock, withCommand, tickOf};
 ghost use Rattle.unit.specs.Ticks.{commandAt};
 use crate::Clock;
 use crate::Done;
-use crate::END_OF_TIME;
 use crate::Unit;
 use rules::Answer;
 use rules::Cause;
+use rules::END_OF_TIME;
+use rules::FLOOR_LAG;
+
+// Where floor follows the clock's month to.
+fn lagging(month: u16) -> u16
+    ensures { λ r. ⌜ r ≡ month - floorLag ⌝ }
+{
+    if month < FLOOR_LAG {
+        0
+    } else {
+        month - FLOOR_LAG
+    }
+}
 
 // 'Floor first becomes the greater of itself and the clock's month - 1'.
 fn raised_floor(floor: u16, t: u32) -> u16
     ensures { λ r. ⌜ r ≡ raisedFloor floor t ⌝ }
 {
-    let month = calendar::month_of(t);
-    if floor < month { month - 1 } else { floor }
+    let lagged = lagging(calendar::month_of(t));
+    if floor < lagged { lagged } else { floor }
 }
 
 impl Unit {

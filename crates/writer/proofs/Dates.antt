@@ -11,7 +11,7 @@ use lib.ListN.{length, getD, drop, length-drop}
 use lib.Seq.{take-append-le, drop-append-le, getD-take, getD-drop}
 use borrow.Author.Tests.{eqb-true}
 use Rattle.rules.specs.Digits.{part, value, digits, sameBytes}
-use Rattle.rules.specs.Calendar.{yearIn, monthIn, minuteIn, monthAt, exists, secondsOf, moment, wholeMinute, halfHour, startSlot, slotOf}
+use Rattle.rules.specs.Calendar.{yearIn, monthIn, minuteIn, monthAt, exists, secondsOf, moment, wholeMinute, halfHour, startSlot, slotOf, monthCount, slotCount}
 use Rattle.rules.specs.File.{monthBegins, inTime}
 use Rattle.calendar.proofs.Tests.{both}
 use Rattle.calendar.proofs.Scan.{pair-is, four-is}
@@ -136,7 +136,7 @@ begun-none s e = go (exists (wholeMinute s) && monthBegins s) e
     go true e = let z : _≡_ {A = ℕ} 0 1 = cc in absurd (omega arith)
     go false e = refl
 
-pub begun-few : (s : List ℕ) (m : ℕ) → length s ≡ 12 → Month m ≡ monthBegun s → m < 1200
+pub begun-few : (s : List ℕ) (m : ℕ) → length s ≡ 12 → Month m ≡ monthBegun s → m < monthCount
 begun-few s m full e =
     let b = begun-is s m e in
     let f = start-month s full (both (exists (wholeMinute s)) (monthBegins s) (b .0) .0) in
@@ -159,5 +159,5 @@ module _ (start next : List ℕ) (n : ℕ) where
   pub undated-next : digits 14 next ≡ true → moment next ≡ none → false ≡ updateDated start next n
   undated-next d e = rw (no-moment next d e, and-false (inTime n (startSlot start))) refl
 
-  pub dated : (k t : ℕ) → startSlot start ≡ some k → moment next ≡ some t → leb (k + n) 1753200 ≡ updateDated start next n
-  dated k t e f = rw (e, moment-exists next t f) (sym (and-true (leb (k + n) 1753200)))
+  pub dated : (k t : ℕ) → startSlot start ≡ some k → moment next ≡ some t → leb (k + n) slotCount ≡ updateDated start next n
+  dated k t e f = rw (e, moment-exists next t f) (sym (and-true (leb (k + n) slotCount)))

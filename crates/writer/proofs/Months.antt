@@ -8,7 +8,7 @@ use native.Mathlib.Numerals.{add-one}
 use native.Mathlib.Omega.{arith}
 use lib.ListN.{length, take, drop, length-append, length-drop}
 use lib.Seq.{drop-drop, length-take-le}
-use Rattle.rules.specs.Calendar.{daysOfMonth, firstSlot, slotsOfMonth}
+use Rattle.rules.specs.Calendar.{daysOfMonth, firstSlot, slotsOfMonth, slotsOfDay}
 use Rattle.rules.specs.Body.{encodeRecord, encodeRecords}
 use Rattle.rules.specs.Writer.{Fields, monthRecord, monthRecords}
 use Rattle.calendar.proofs.Laws.{days-range, first-slot-step, first-slot-monotone}
@@ -91,7 +91,7 @@ module _ {before : List ℕ} {at : ℕ} {schedule plant : List ℕ} {first end :
     module _ (days : ℕ) (d : days ≡ daysOfMonth month) (l : month < end) where
       -- the month's rates
       abbrev pub to : ℕ
-      to = from + 48 * days
+      to = from + slotsOfDay * days
 
       abbrev pub these : List ℕ
       these = take (to - from) (drop from rates)
@@ -99,12 +99,12 @@ module _ {before : List ℕ} {at : ℕ} {schedule plant : List ℕ} {first end :
       pub part-within : to ≤ length rates
       part-within = omega (arith, slots-before month end l, g .full, d)
 
-      part-length : length these ≡ 48 * days
+      part-length : length these ≡ slotsOfDay * days
       part-length =
           let w = part-within in
           let left = length-drop from rates in
-          let e : to - from ≡ 48 * days = omega arith in
-          rw e (length-take-le (48 * days) (drop from rates) (omega arith))
+          let e : to - from ≡ slotsOfDay * days = omega arith in
+          rw e (length-take-le (slotsOfDay * days) (drop from rates) (omega arith))
 
       pub month-room : MonthRoom (length out) place schedule plant these
       month-room =

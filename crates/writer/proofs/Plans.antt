@@ -10,10 +10,10 @@ use lib.Dec.{leb, eqb}
 use lib.ListN.{length}
 use borrow.Author.Tests.{leb-true, eqb-true, eq-eqb, ne-eqb}
 use Rattle.rules.specs.Digits.{digits, allAtMost}
-use Rattle.rules.specs.Calendar.{monthAt, firstSlot, exists, wholeMinute, startSlot}
+use Rattle.rules.specs.Calendar.{monthAt, firstSlot, exists, wholeMinute, startSlot, monthCount}
 use Rattle.rules.specs.Plant.{plantId}
 use Rattle.rules.specs.Name.{formatOf}
-use Rattle.rules.specs.Body.{schedule, encodeBody}
+use Rattle.rules.specs.Body.{schedule, encodeBody, highestRate}
 use Rattle.rules.specs.File.{monthBegins, inTime, updateDates}
 use Rattle.rules.specs.Writer.{Fields, refuse, fitting, monthRecords, fieldRecords, updateRecord, flagFits, digitsFit, monthsFit, writeAs, writeBody}
 use Rattle.rules.specs.Table.{need}
@@ -39,13 +39,13 @@ module _ (k : ℕ) (ident start rates : List ℕ) where
 
   -- whether m is followed by k months, and has as many rates as their slots
   abbrev pub lengthFits : ℕ → Bool
-  lengthFits m = leb (m + k) 1200 && eqb (length rates) (firstSlot (m + k) - firstSlot m)
+  lengthFits m = leb (m + k) monthCount && eqb (length rates) (firstSlot (m + k) - firstSlot m)
 
   months-fit : monthsFit k dateFields ≡ ((exists (wholeMinute start) && monthBegins start) && lengthFits (monthAt start))
   unfolding monthsFit
   months-fit =
       let m = monthAt start in
-      and-assoc (exists (wholeMinute start) && monthBegins start) (leb (m + k) 1200) (eqb (length rates) (firstSlot (m + k) - firstSlot m))
+      and-assoc (exists (wholeMinute start) && monthBegins start) (leb (m + k) monthCount) (eqb (length rates) (firstSlot (m + k) - firstSlot m))
 
   pub months-form : (digits 10 ident && digits 12 start) ≡ false → Refused Cause.Form ≡ monthsPlan k ident start rates
   unfolding monthsPlan
@@ -65,11 +65,11 @@ module _ (k : ℕ) (ident start rates : List ℕ) where
       months-length e = rw (d, fit-is, e) refl
 
       module _ (f : lengthFits m ≡ true) where
-        pub months-rate : allAtMost 100 rates ≡ false → Refused Cause.Rate ≡ monthsPlan k ident start rates
+        pub months-rate : allAtMost highestRate rates ≡ false → Refused Cause.Rate ≡ monthsPlan k ident start rates
         unfolding monthsPlan
         months-rate e = rw (d, fit-is, f, e) refl
 
-        pub months-plan : allAtMost 100 rates ≡ true → Months m (m + k) ≡ monthsPlan k ident start rates
+        pub months-plan : allAtMost highestRate rates ≡ true → Months m (m + k) ≡ monthsPlan k ident start rates
         unfolding monthsPlan
         months-plan e = rw (d, fit-is, f, e, begun-is start m b .1) refl
 
@@ -94,11 +94,11 @@ module _ (ident start next rates : List ℕ) where
     update-date e = rw (d, e) refl
 
     module _ (f : updateDated start next (length rates) ≡ true) where
-      pub update-rate : allAtMost 100 rates ≡ false → Refused Cause.Rate ≡ updatePlan ident start next rates
+      pub update-rate : allAtMost highestRate rates ≡ false → Refused Cause.Rate ≡ updatePlan ident start next rates
       unfolding updatePlan
       update-rate e = rw (d, f, e) refl
 
-      pub update-plan : allAtMost 100 rates ≡ true → Update ≡ updatePlan ident start next rates
+      pub update-plan : allAtMost highestRate rates ≡ true → Update ≡ updatePlan ident start next rates
       unfolding updatePlan
       update-plan e = rw (d, f, e) refl
 
@@ -168,14 +168,14 @@ months-passed : (k : ℕ) (ident start rates : List ℕ) (q : Plan) → kept q �
 unfolding monthsPlan
 months-passed k ident start rates q h e =
     let m = monthAt start in
-    three-passed (digits 10 ident && digits 12 start) (monthsFit k (dateFields k ident start rates)) (allAtMost 100 rates)
+    three-passed (digits 10 ident && digits 12 start) (monthsFit k (dateFields k ident start rates)) (allAtMost highestRate rates)
     Cause.Form Cause.Date Cause.Rate (Months m (m + k)) q h e
 
 update-passed : (ident start next rates : List ℕ) (q : Plan) → kept q ≡ true → updatePlan ident start next rates ≡ q
     → (formFits ident start next rates ≡ true) × (updateDated start next (length rates) ≡ true) × (Update ≡ q)
 unfolding updatePlan
 update-passed ident start next rates q h e =
-    three-passed (formFits ident start next rates) (updateDated start next (length rates)) (allAtMost 100 rates)
+    three-passed (formFits ident start next rates) (updateDated start next (length rates)) (allAtMost highestRate rates)
     Cause.Form Cause.Date Cause.Rate Update q h e
 
 plant-length : (id : List ℕ) → plantId id ≡ true → length id ≡ 26
@@ -188,8 +188,8 @@ months-facts k ident start rates plant first end few long e =
     let p = months-passed k ident start rates (Months first end) refl e in
     let m = monthAt start in
     let fit = both (exists (wholeMinute start) && monthBegins start) (lengthFits k ident start rates m) (sym (months-fit k ident start rates) ∙ p .1) .1 in
-    let tests = both (leb (m + k) 1200) (eqb (length rates) (firstSlot (m + k) - firstSlot m)) fit in
-    let last = leb-true (m + k) 1200 (tests .0) in
+    let tests = both (leb (m + k) monthCount) (eqb (length rates) (firstSlot (m + k) - firstSlot m)) fit in
+    let last = leb-true (m + k) monthCount (tests .0) in
     let slots = eqb-true (length rates) (firstSlot (m + k) - firstSlot m) (tests .1) in
     let rises = first-slot-monotone m (m + k) (omega arith) in
     let first-is : first ≡ m = cc (p .2) in
@@ -305,7 +305,7 @@ module _ (w : Fields) where
     months-output : (k : ℕ)
         → need (digits 10 (w .schedule) && digits 12 (w .start) && true) (refuse Cause.Form)
         (need (monthsFit k w) (refuse Cause.Date)
-        (need (allAtMost 100 (w .rates)) (refuse Cause.Rate)
+        (need (allAtMost highestRate (w .rates)) (refuse Cause.Rate)
         (fitting room (encodeBody (schedule (monthRecords w k (monthAt (w .start)) (w .rates)))))))
         ≡ outputOf w room (monthsPlan k (w .schedule) (w .start) (w .rates))
     unfolding monthsPlan monthsFit
@@ -313,7 +313,7 @@ module _ (w : Fields) where
         let m = monthAt (w .start) in
         let form = digits 10 (w .schedule) && digits 12 (w .start) in
         let k-is : m + k - m ≡ k = omega arith in
-        sym (sym (three-needs form (monthsFit k w) (allAtMost 100 (w .rates)) Cause.Form Cause.Date Cause.Rate (Months m (m + k)))
+        sym (sym (three-needs form (monthsFit k w) (allAtMost highestRate (w .rates)) Cause.Form Cause.Date Cause.Rate (Months m (m + k)))
         ∙ rw (k-is, and-true form) refl)
 
     output-as : (o : Option Format) → writeAs room w o ≡ outputOf w room (planAs w o)
@@ -323,7 +323,7 @@ module _ (w : Fields) where
     output-as (some F202) = months-output 1
     output-as (some F203) =
         let dates = updateDated (w .start) (w .next) (length (w .rates)) in
-        three-needs (formFits (w .schedule) (w .start) (w .next) (w .rates)) dates (allAtMost 100 (w .rates)) Cause.Form Cause.Date Cause.Rate Update
+        three-needs (formFits (w .schedule) (w .start) (w .next) (w .rates)) dates (allAtMost highestRate (w .rates)) Cause.Form Cause.Date Cause.Rate Update
     output-as (some F301) = refl
 
     pub output-is : writeBody w room ≡ outputOf w room (planOf w)

@@ -9,7 +9,7 @@ use Rattle.rules.specs.Digits.{digits, allAtMost}
 use Rattle.rules.specs.Calendar.{monthAt, startSlot, exists, wholeMinute}
 use Rattle.rules.specs.Plant.{plantId}
 use Rattle.rules.specs.Name.{formatOf}
-use Rattle.rules.specs.Body.{schedule, encodeBody}
+use Rattle.rules.specs.Body.{schedule, encodeBody, highestRate}
 use Rattle.rules.specs.File.{inTime, monthBegins}
 use Rattle.rules.specs.Writer.{Fields, Output, refuse, fitting, monthRecords, updateRecord, flagFits, monthsFit}
 use Rattle.rules.specs.Table.{need}
@@ -35,7 +35,7 @@ unfoldable pub monthsPlan : ℕ → List ℕ → List ℕ → List ℕ → Plan
 monthsPlan k ident start rates =
     need (digits 10 ident && digits 12 start) (Refused Cause.Form)
     (need (monthsFit k (fieldsOf 0 [] ident start [] rates 0)) (Refused Cause.Date)
-    (need (allAtMost 100 rates) (Refused Cause.Rate)
+    (need (allAtMost highestRate rates) (Refused Cause.Rate)
     (Months (monthAt start) (monthAt start + k))))
 
 -- whether an update's n rates and its next access stand before the end of 2099
@@ -47,7 +47,7 @@ unfoldable pub updatePlan : List ℕ → List ℕ → List ℕ → List ℕ → 
 updatePlan ident start next rates =
     need (digits 10 ident && digits 12 start && (digits 14 next && leb (length rates) 336)) (Refused Cause.Form)
     (need (updateDated start next (length rates)) (Refused Cause.Date)
-    (need (allAtMost 100 rates) (Refused Cause.Rate) Update))
+    (need (allAtMost highestRate rates) (Refused Cause.Rate) Update))
 
 abbrev pub planAs : Fields → Option Format → Plan
 planAs w none = Refused Cause.Name

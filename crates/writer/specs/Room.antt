@@ -3,7 +3,7 @@ use Prim.Native.Nat.{ℕ, _+_, _-_, _*_, _≤_}
 use mathlib.Core.Path.{_≡_}
 use mathlib.Core.List.{List}
 use lib.ListN.{length}
-use Rattle.rules.specs.Calendar.{monthIn, dayIn, firstSlot}
+use Rattle.rules.specs.Calendar.{monthIn, dayIn, firstSlot, monthCount}
 
 -- the sum's divisor is not 0, and the sum fits
 pub record Summed (start rates : List ℕ) : Type 0 where
@@ -37,7 +37,7 @@ pub record MonthsGiven (schedule plant : List ℕ) (first end : ℕ) (rates : Li
   pub schedule-long : length schedule ≡ 10
   pub plant-long : length plant ≡ 26
   pub order : first ≤ end
-  pub last : end ≤ 1200
+  pub last : end ≤ monthCount
   pub few : end ≤ first + 13
   pub full : firstSlot first + length rates ≡ firstSlot end
 

@@ -14,6 +14,9 @@ use crate::record::START_DIGITS;
 use crate::record::pair;
 use calendar::Moment;
 use rules::Cause;
+use rules::HIGHEST_RATE;
+use rules::MONTH_COUNT;
+use rules::SLOT_COUNT;
 
 // The formats of a schedule's body, and how many months those of whole months have.
 const YEARLY: u32 = 201;
@@ -38,16 +41,8 @@ const HIGHEST_DIGIT: u8 = 9;
 // Cause 6: 'writer's flag above 9'.
 const HIGHEST_FLAG: u32 = 9;
 
-// Cause 11: 'rate above 100'.
-const HIGHEST_RATE: u8 = 100;
-
 // 'the start is day 01, 00:00' (01, Names and bodies): the digits from the day on.
 const MONTH_BEGINS: [u8; 6] = [0, 1, 0, 0, 0, 0];
-
-// Months are numbered to 1199, and slots to the end of 2099.
-const MONTHS: u16 = 1200;
-
-const SLOTS: u32 = 36525 * 48;
 
 // The records of a body: those of the months from `first` to before `end`, or an update's.
 pub enum Plan {
@@ -98,7 +93,7 @@ fn plan_months(count: u16, schedule: &[u8], start: &[u8], rates: &[u8]) -> Plan
     };
     let end = first + count;
     let slots = calendar::first_slot(end) - calendar::first_slot(first);
-    if !((end <= MONTHS) & (rates.len() == slots as usize)) {
+    if !((end <= MONTH_COUNT) & (rates.len() == slots as usize)) {
         return Plan::Refused(Cause::Date);
     }
     if !digits::all_at_most(rates, HIGHEST_RATE) {
@@ -118,7 +113,7 @@ fn is_dated(start: &[u8], next: &[u8], count: usize) -> bool
     let Moment::At(_) = calendar::read_moment(next) else {
         return false;
     };
-    slot + count as u32 <= SLOTS
+    slot + count as u32 <= SLOT_COUNT
 }
 
 // A 203's plan.

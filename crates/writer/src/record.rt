@@ -18,7 +18,7 @@ pub const FIRST_YEAR: u32 = 2000;
 
 pub const MONTHS_OF_YEAR: u32 = 12;
 
-const SLOTS_OF_DAY: usize = 48;
+const SLOTS_OF_DAY: usize = rules::SLOTS_OF_DAY as usize;
 
 // A start is YYYYMMDDhhmm: where its month and its day stand.
 pub const START_DIGITS: usize = 12;

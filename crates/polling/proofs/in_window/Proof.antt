@@ -6,20 +6,14 @@ use Rattle.polling.proofs.in_window.Tie as tie
 window-start-requires : tie.Need-window-start-requires
 window-start-requires c κs = search needs
 
-cast-end : tie.Need-cast-end
-cast-end c = search needs
+sub-since : tie.Need-sub-since
+sub-since c = search needs
+
+add-since : tie.Need-add-since
+add-since c = search needs
 
 window-length-requires : tie.Need-window-length-requires
 window-length-requires c κs = search needs
-
-cast-end-2 : tie.Need-cast-end-2
-cast-end-2 c = search needs
-
-add-end : tie.Need-add-end
-add-end c = search needs
-
-cast-result : tie.Need-cast-result
-cast-result c = search needs
 
 returns : tie.Need-returns
 unfolding inWindow
@@ -27,12 +21,4 @@ returns c = rw (c .before .window-start .ensures .0, c .window-length .ensures)
 
 pub in-window-spec : {M : Type 1} → statement M
 in-window-spec =
-    tie.close
-    (tie.spec
-    window-start-requires
-    cast-end
-    window-length-requires
-    cast-end-2
-    add-end
-    cast-result
-    returns)
+    tie.close (tie.spec window-start-requires sub-since add-since window-length-requires returns)

@@ -4,16 +4,17 @@ use native.Mathlib.Omega.{arith}
 use borrow.Author.Needs.{needs}
 use lib.Dec.{eqb}
 use lib.ListN.{getD}
+use Rattle.rules.specs.Store.{blockCount}
 use Rattle.pool.specs.Below.{pairsBelow}
 use Rattle.pool.proofs.BelowLaws.{count-le, pairs-step}
 use Rattle.pool.proofs.pairs.Statement.{statement}
 use Rattle.pool.proofs.pairs.Tie as tie
 
 abbrev Inv-loop : tie.InvT-loop
-Inv-loop keys count₀ b₀ count b = (b ≤ 16) × (count ≤ 16 * b) × (count ≡ pairsBelow b (λ c. getD keys c 0))
+Inv-loop keys count₀ b₀ count b = (b ≤ blockCount) × (count ≤ blockCount * b) × (count ≡ pairsBelow b (λ c. getD keys c 0))
 
 abbrev μ-loop : tie.MeasureT-loop
-μ-loop keys count₀ b₀ count b = 16 - b
+μ-loop keys count₀ b₀ count b = blockCount - b
 
 loop-holds : tie.Need-loop-holds Inv-loop μ-loop
 unfolding pairsBelow
@@ -31,7 +32,7 @@ same-keys-requires c κs = search needs
 add-count : tie.Need-add-count Inv-loop μ-loop
 add-count c =
     let keys = c .before .before .before .args .t1 in
-    let most = count-le 16 (λ d. eqb (getD keys d 0) (getD keys (c .before .before .loop .b) 0)) in
+    let most = count-le blockCount (λ d. eqb (getD keys d 0) (getD keys (c .before .before .loop .b) 0)) in
     omega (arith, c .same-keys .ensures)
 
 add-b : tie.Need-add-b Inv-loop μ-loop
@@ -44,13 +45,13 @@ loop-again : tie.Need-loop-again Inv-loop μ-loop
 loop-again c =
     let keys = c .before .before .before .args .t1 in
     let b = c .before .before .loop .b in
-    let most = count-le 16 (λ d. eqb (getD keys d 0) (getD keys b 0)) in
+    let most = count-le blockCount (λ d. eqb (getD keys d 0) (getD keys b 0)) in
     let more = pairs-step (λ d. getD keys d 0) b in
     let found = c .same-keys .ensures in
     (search needs, omega arith, omega arith)
 
 returns : tie.Need-returns Inv-loop μ-loop
-returns c = let e : c .before .loop .b ≡ 16 = omega arith in cc
+returns c = let e : c .before .loop .b ≡ blockCount = omega arith in cc
 
 pub pairs-spec : {M : Type 1} → statement M
 pairs-spec =

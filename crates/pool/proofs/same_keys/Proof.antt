@@ -4,16 +4,17 @@ use native.Mathlib.Omega.{arith}
 use borrow.Author.Needs.{needs}
 use lib.Dec.{eqb}
 use lib.ListN.{getD}
+use Rattle.rules.specs.Store.{blockCount}
 use Rattle.pool.specs.Below.{sumBelow, countBelow}
 use Rattle.pool.proofs.BelowLaws.{byte-le, count-step}
 use Rattle.pool.proofs.same_keys.Statement.{statement}
 use Rattle.pool.proofs.same_keys.Tie as tie
 
 abbrev Inv-loop : tie.InvT-loop
-Inv-loop key keys count₀ b₀ count b = (b ≤ 16) × (count ≤ b) × (count ≡ countBelow b (λ c. eqb (getD keys c 0) key))
+Inv-loop key keys count₀ b₀ count b = (b ≤ blockCount) × (count ≤ b) × (count ≡ countBelow b (λ c. eqb (getD keys c 0) key))
 
 abbrev μ-loop : tie.MeasureT-loop
-μ-loop key keys count₀ b₀ count b = 16 - b
+μ-loop key keys count₀ b₀ count b = blockCount - b
 
 loop-holds : tie.Need-loop-holds Inv-loop μ-loop
 unfolding sumBelow
@@ -47,7 +48,7 @@ loop-again c =
     (search needs, omega (arith, byte-le (eqb (getD (a .t1) (l .b) 0) (a .key))), omega arith)
 
 returns : tie.Need-returns Inv-loop μ-loop
-returns c = let e : c .before .loop .b ≡ 16 = omega arith in cc
+returns c = let e : c .before .loop .b ≡ blockCount = omega arith in cc
 
 pub same-keys-spec : {M : Type 1} → statement M
 same-keys-spec =

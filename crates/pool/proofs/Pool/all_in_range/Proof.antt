@@ -2,6 +2,7 @@ use mathlib.Core.Path.{_≡_, refl}
 use Prim.Native.Nat.{_≤_, _-_}
 use native.Mathlib.Omega.{arith}
 use borrow.Author.Needs.{needs}
+use Rattle.rules.specs.Store.{blockCount}
 use Rattle.pool.specs.Below.{allBelow}
 use Rattle.pool.specs.Blocks.{inRange}
 use Rattle.pool.proofs.BelowLaws.{all-step}
@@ -9,10 +10,10 @@ use Rattle.pool.proofs.Pool.all_in_range.Statement.{statement}
 use Rattle.pool.proofs.Pool.all_in_range.Tie as tie
 
 abbrev Inv-loop : tie.InvT-loop
-Inv-loop self floor good₀ b₀ good b = (b ≤ 16) × (good ≡ allBelow b (inRange self floor))
+Inv-loop self floor good₀ b₀ good b = (b ≤ blockCount) × (good ≡ allBelow b (inRange self floor))
 
 abbrev μ-loop : tie.MeasureT-loop
-μ-loop self floor good₀ b₀ good b = 16 - b
+μ-loop self floor good₀ b₀ good b = blockCount - b
 
 loop-holds : tie.Need-loop-holds Inv-loop μ-loop
 unfolding allBelow
@@ -34,7 +35,7 @@ loop-again c =
     (search needs, rw (c .in-range .ensures, l .inv .1) (all-step (inRange (a .self) (a .floor)) (l .b)))
 
 returns : tie.Need-returns Inv-loop μ-loop
-returns c = let e : c .before .loop .b ≡ 16 = omega arith in cc
+returns c = let e : c .before .loop .b ≡ blockCount = omega arith in cc
 
 pub all-in-range-spec : {M : Type 1} → statement M
 all-in-range-spec =

@@ -4,16 +4,17 @@ use native.Mathlib.Omega.{arith}
 use borrow.Author.Needs.{needs}
 use borrow.Author.Count.{below-none}
 use lib.ListN.{length, getD, length-set}
+use Rattle.rules.specs.Store.{blockCount}
 use Rattle.pool.specs.Blocks.{keyOf}
 use Rattle.pool.proofs.Laws.{keys-step}
 use Rattle.pool.proofs.Pool.keys.Statement.{statement}
 use Rattle.pool.proofs.Pool.keys.Tie as tie
 
 abbrev Inv-loop : tie.InvT-loop
-Inv-loop self keys₀ b₀ keys b = (b ≤ 16) × (length keys ≡ 16) × ((k : ℕ) → k < b → getD keys k 0 ≡ keyOf self k)
+Inv-loop self keys₀ b₀ keys b = (b ≤ blockCount) × (length keys ≡ blockCount) × ((k : ℕ) → k < b → getD keys k 0 ≡ keyOf self k)
 
 abbrev μ-loop : tie.MeasureT-loop
-μ-loop self keys₀ b₀ keys b = 16 - b
+μ-loop self keys₀ b₀ keys b = blockCount - b
 
 loop-holds : tie.Need-loop-holds Inv-loop μ-loop
 loop-holds c = (search needs, refl, λ k l. absurd (omega arith))

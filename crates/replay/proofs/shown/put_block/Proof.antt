@@ -3,12 +3,13 @@ use Prim.Native.Nat.{_<_}
 use mathlib.Core.Path.{sym, _∙_}
 use native.Mathlib.Omega.{arith}
 use borrow.Author.Needs.{needs}
+use Rattle.rules.specs.Store.{blockCount}
 use Rattle.pool.proofs.Laws.{find-at}
 use Rattle.replay.proofs.shown.put_block.Statement.{statement}
 use Rattle.replay.proofs.shown.put_block.Tie as tie
 
 -- the block that was found
-found : (c : tie.After-known-told) → c .before .block .given .0 .0 < 16
+found : (c : tie.After-known-told) → c .before .block .given .0 .0 < blockCount
 found c = find-at _ _ _ (sym (c .before .before .before .find .ensures) ∙ c .before .block .given .1) .below
 
 slice-aggregate-put-text : tie.Need-slice-aggregate-put-text

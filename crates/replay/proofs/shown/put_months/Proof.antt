@@ -4,14 +4,15 @@ use mathlib.Core.Path.{_≡_}
 use native.Mathlib.Omega.{arith}
 use lib.ListN.{length}
 use borrow.Author.Needs.{needs}
+use Rattle.rules.specs.Calendar.{monthCount}
 use Rattle.replay.proofs.shown.put_months.Statement.{statement}
 use Rattle.replay.proofs.shown.put_months.Tie as tie
 
 abbrev Inv-loop : tie.InvT-loop
-Inv-loop pool out₀ start end₀ month₀ out end month = (month ≤ 1200) × (length out ≡ length out₀)
+Inv-loop pool out₀ start end₀ month₀ out end month = (month ≤ monthCount) × (length out ≡ length out₀)
 
 abbrev μ-loop : tie.MeasureT-loop
-μ-loop pool out₀ start end₀ month₀ out end month = 1200 - month
+μ-loop pool out₀ start end₀ month₀ out end month = monthCount - month
 
 loop-holds : tie.Need-loop-holds Inv-loop μ-loop
 loop-holds c = search needs

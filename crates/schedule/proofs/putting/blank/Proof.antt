@@ -5,12 +5,13 @@ use mathlib.Core.List.{_++_}
 use native.Mathlib.Omega.{arith}
 use lib.ListN.{length, drop, replicate, length-set}
 use denote.Ref.{now}
+use Rattle.rules.specs.Store.{noRate}
 use Rattle.schedule.proofs.Parts.{fill-step, fill-end}
 use Rattle.schedule.proofs.putting.blank.Statement.{statement}
 use Rattle.schedule.proofs.putting.blank.Tie as tie
 
 abbrev Inv-loop : tie.InvT-loop
-Inv-loop to₀ i₀ to i = (i ≤ length to₀) × (length to ≡ length to₀) × (to ≡ replicate i 255 ++ drop i to₀)
+Inv-loop to₀ i₀ to i = (i ≤ length to₀) × (length to ≡ length to₀) × (to ≡ replicate i noRate ++ drop i to₀)
 
 abbrev μ-loop : tie.MeasureT-loop
 μ-loop to₀ i₀ to i = length to₀ - i
@@ -32,13 +33,13 @@ loop-again c =
     let l = c .before .loop in
     let to = now (c .before .before .args .to) in
     let h = c .loop-test .taken in
-    (omega arith, simp length-set (l .inv .1), fill-step (l .to) to (l .i) 255 (omega arith) (l .inv .2))
+    (omega arith, simp length-set (l .inv .1), fill-step (l .to) to (l .i) noRate (omega arith) (l .inv .2))
 
 same-length : tie.Need-same-length Inv-loop μ-loop
 same-length c = c .before .loop .inv .1
 
 returns : tie.Need-returns Inv-loop μ-loop
-returns c = let l = c .before .loop in fill-end (l .to) _ (l .i) 255 (omega arith) (l .inv .2)
+returns c = let l = c .before .loop in fill-end (l .to) _ (l .i) noRate (omega arith) (l .inv .2)
 
 pub blank-spec : {M : Type 1} → statement M
 blank-spec =

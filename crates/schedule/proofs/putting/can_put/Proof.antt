@@ -5,7 +5,8 @@ use mathlib.Core.Bool.{_&&_}
 use native.Mathlib.Omega.{arith}
 use lib.Dec.{leb, eqb}
 use borrow.Author.Needs.{needs}
-use Rattle.rules.specs.Calendar.{firstSlot, monthOfSlot}
+use Rattle.rules.specs.Calendar.{firstSlot, monthOfSlot, slotCount}
+use Rattle.rules.specs.Store.{storeLength}
 use Rattle.calendar.proofs.Laws.{slot-month-most}
 use Rattle.schedule.proofs.putting.can_put.Statement.{statement}
 use Rattle.schedule.proofs.putting.can_put.Tie as tie
@@ -29,7 +30,7 @@ returns : tie.Need-returns
 returns c =
     let a = c .before .before .args in
     let month : c .before .month-of-slot .result + 2 ≡ suc (suc (monthOfSlot (a .slot))) = omega (arith, c .before .month-of-slot .ensures) in
-    ap (λ (x : ℕ). eqb (a .bytes) 23808 && leb (a .slot + a .count) 1753200 && leb (a .slot + a .count) x) (c .first-slot .ensures ∙ ap firstSlot month)
+    ap (λ (x : ℕ). eqb (a .bytes) storeLength && leb (a .slot + a .count) slotCount && leb (a .slot + a .count) x) (c .first-slot .ensures ∙ ap firstSlot month)
 
 pub can-put-spec : {M : Type 1} → statement M
 can-put-spec =

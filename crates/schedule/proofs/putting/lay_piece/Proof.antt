@@ -7,11 +7,12 @@ use mathlib.Core.List.{List}
 use lib.ListN.{length}
 use lib.Seq.{sets}
 use borrow.Author.Needs.{needs}
+use Rattle.rules.specs.Store.{blockCount, blockLength}
 use Rattle.pool.specs.Blocks.{findOf}
 use Rattle.pool.specs.declared.Found.the-variants.{At}
 use Rattle.schedule.specs.Rates.{pieceOf}
 use Rattle.schedule.proofs.Parts.{put-part}
-use Rattle.schedule.proofs.RateLaws.{find-below}
+use Rattle.schedule.proofs.RateLaws.{find-below, bytes-length}
 use Rattle.schedule.proofs.PutLaws.{lay-found, lay-nothing}
 use Rattle.schedule.proofs.putting.lay_piece.Statement.{statement}
 use Rattle.schedule.proofs.putting.lay_piece.Tie as tie
@@ -26,7 +27,7 @@ enum-known-b c = search needs
 at : (c : tie.After-known-told) → findOf (c .before .before .before .before .before .before .args .pool) (c .before .before .before .before .before .before .args .month) ≡ At (c .before .b .given .0 .0)
 at c = sym (c .before .before .before .find .ensures) ∙ c .before .b .given .1
 
-below : (c : tie.After-known-told) → c .before .b .given .0 .0 < 16
+below : (c : tie.After-known-told) → c .before .b .given .0 .0 < blockCount
 below c = find-below _ _ _ (at c)
 
 mul-at : tie.Need-mul-at
@@ -38,17 +39,17 @@ add-at c = omega (arith, below c)
 add-end : tie.Need-add-end
 add-end c = omega (arith, below c)
 
-sub-copy : tie.Need-sub-copy
-sub-copy c = search needs
+sub-lay : tie.Need-sub-lay
+sub-lay c = search needs
 
-part-copy-start : tie.Need-part-copy-start
-part-copy-start c = search needs
+part-lay-start : tie.Need-part-lay-start
+part-lay-start c = search needs
 
-part-copy-end : tie.Need-part-copy-end
-part-copy-end c = omega (arith, below c)
+part-lay-end : tie.Need-part-lay-end
+part-lay-end c = omega (arith, below c)
 
-copy-requires : tie.Need-copy-requires
-copy-requires c κs = search needs
+lay-requires : tie.Need-lay-requires
+lay-requires c κs = search needs
 
 enum-told : tie.Need-enum-told
 enum-told c = search needs
@@ -62,11 +63,11 @@ returns c =
     let pre = c .before .before .before .before .before .before .before .before .before .before .pre in
     let k = c .before .before .before .before in
     let b = k .before .b .given .0 .0 in
-    let y = c .before .before .copy in
-    let room : b * 1488 + a .from + length (now (a .rates)) ≤ length (now (a .store)) = omega (arith, below k, pre) in
+    let y = c .before .before .lay in
+    let room : b * blockLength + a .from + length (now (a .rates)) ≤ length (now (a .store)) = omega (arith, below k, pre) in
     lay-found (a .pool) (pieceOf (a .month) (a .from) (now (a .rates))) (now (a .store)) b _ (at k)
-    (put-part (now (a .store)) (y .last .0) (b * 1488 + a .from) (length (now (a .rates))) (ap length (y .ensures)) room
-    ∙ ap (λ (vs : List ℕ). sets (now (a .store)) (b * 1488 + a .from) vs) (y .ensures))
+    (put-part (now (a .store)) (y .last .0) (b * blockLength + a .from) (length (now (a .rates))) (ap length (y .ensures) ∙ bytes-length (now (a .rates))) room
+    ∙ ap (λ (vs : List ℕ). sets (now (a .store)) (b * blockLength + a .from) vs) (y .ensures))
 
 returns-2 : tie.Need-returns-2
 returns-2 c =
@@ -82,10 +83,10 @@ lay-piece-spec =
     mul-at
     add-at
     add-end
-    sub-copy
-    part-copy-start
-    part-copy-end
-    copy-requires
+    sub-lay
+    part-lay-start
+    part-lay-end
+    lay-requires
     enum-told
     same-length
     returns

@@ -7,6 +7,7 @@ use denote.Ref.{now}
 use lib.ListN.{length}
 use borrow.Author.Needs.{needs}
 use borrow.Author.Tests.{not-true, not-false}
+use Rattle.rules.specs.Calendar.{monthCount}
 use Rattle.rules.specs.Store.{storeLength}
 use Rattle.calendar.proofs.Laws.{slot-month-most}
 use Rattle.schedule.specs.Stored.{Stored, canPut}
@@ -42,7 +43,7 @@ can c = sym (c .before .before .can-put .ensures) ∙ not-false (c .before .befo
 long : (c : tie.After-month-of-slot) → length (now (start c .args .store)) ≡ storeLength
 long c = can-long (start c .args .floor) (start c .args .slot) (now (start c .args .rates)) (entry (start c)) (can c)
 
-month : (c : tie.After-month-of-slot) → c .month-of-slot .result ≤ 1200
+month : (c : tie.After-month-of-slot) → c .month-of-slot .result ≤ monthCount
 month c = omega (arith, c .month-of-slot .ensures, slot-month-most (start c .args .slot))
 
 put-month-requires : tie.Need-put-month-requires

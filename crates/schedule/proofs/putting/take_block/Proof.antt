@@ -7,6 +7,7 @@ use denote.Ref.{now}
 use lib.ListN.{length}
 use lib.Seq.{sets}
 use borrow.Author.Needs.{needs}
+use Rattle.rules.specs.Store.{blockCount, blockLength, noRate}
 use Rattle.pool.specs.declared.Taken.{Taken}
 use Rattle.schedule.specs.Stored.{blank}
 use Rattle.schedule.proofs.Parts.{fill-part}
@@ -20,7 +21,7 @@ take-requires c κs = search needs
 enum-known-place : tie.Need-enum-known-place
 enum-known-place c = search needs
 
-below : (c : tie.After-known-told) → c .before .place .given .0 .0 < 16
+below : (c : tie.After-known-told) → c .before .place .given .0 .0 < blockCount
 below c = take-below _ _ _ (sym (ap (λ (t : Taken). t .place) (c .before .before .before .take .ensures)) ∙ c .before .place .given .1)
 
 mul-at : tie.Need-mul-at
@@ -53,10 +54,10 @@ returns c =
     let t = c .before .before .before .before .before .before .before .before .take in
     let p = c .before .before .before .before .before .before .place .given in
     let b = p .0 .0 in
-    let room : b * 1488 + 1488 ≤ length (now (a .store)) = omega (arith, below (c .before .before .before .before .before)) in
+    let room : b * blockLength + blockLength ≤ length (now (a .store)) = omega (arith, below (c .before .before .before .before .before)) in
     take-opens (t .result) (a .pool) (a .month) (now (a .store)) (t .ensures) b _ (p .1)
-    (fill-part (now (a .store)) _ (b * 1488) 1488 255 room (c .before .before .before .blank .ensures)
-    ∙ ap (λ (i : ℕ). sets (now (a .store)) i blank) (sym (add-zero (b * 1488))))
+    (fill-part (now (a .store)) _ (b * blockLength) blockLength noRate room (c .before .before .before .blank .ensures)
+    ∙ ap (λ (i : ℕ). sets (now (a .store)) i blank) (sym (add-zero (b * blockLength))))
 
 returns-2 : tie.Need-returns-2
 returns-2 c =

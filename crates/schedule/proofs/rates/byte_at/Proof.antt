@@ -3,6 +3,7 @@ use mathlib.Core.Path.{sym}
 use denote.Ref.{now}
 use lib.ListN.{List·getD-eq-default}
 use borrow.Author.Needs.{needs}
+use Rattle.rules.specs.Store.{noRate}
 use Rattle.schedule.proofs.Parts.{getD-in}
 use Rattle.schedule.proofs.rates.byte_at.Statement.{statement}
 use Rattle.schedule.proofs.rates.byte_at.Tie as tie
@@ -11,10 +12,10 @@ shared-slice-read-result : tie.Need-shared-slice-read-result
 shared-slice-read-result c = search needs
 
 returns : tie.Need-returns
-returns c = let a = c .before .before .args in getD-in (now (a .store)) (a .at) 0 255 (c .before .if1 .taken)
+returns c = let a = c .before .before .args in getD-in (now (a .store)) (a .at) 0 noRate (c .before .if1 .taken)
 
 returns-2 : tie.Need-returns-2
-returns-2 c = sym (List·getD-eq-default (now (c .before .args .store)) 255 (c .if1 .left))
+returns-2 c = sym (List·getD-eq-default (now (c .before .args .store)) noRate (c .if1 .left))
 
 pub byte-at-spec : {M : Type 1} → statement M
 byte-at-spec = tie.close (tie.spec shared-slice-read-result returns returns-2)

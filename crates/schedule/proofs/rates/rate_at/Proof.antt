@@ -6,7 +6,7 @@ use denote.Ref.{now}
 use lib.ListN.{getD}
 use borrow.Author.Needs.{needs}
 use Rattle.rules.specs.Calendar.{firstSlot, monthOfSlot}
-use Rattle.rules.specs.Store.{noRate, fromByte}
+use Rattle.rules.specs.Store.{noRate, fromByte, blockCount}
 use Rattle.pool.specs.Blocks.{findOf}
 use Rattle.pool.specs.declared.Found.the-variants.{At}
 use Rattle.schedule.specs.Stored.{place}
@@ -38,7 +38,7 @@ from c =
 at : (c : tie.After-first-slot) → findOf (c .before .before .before .before .before .before .before .args .pool) (c .before .before .before .before .before .month-of-slot .result) ≡ At (c .before .before .b .given .0 .0)
 at c = sym (c .before .before .before .before .find .ensures) ∙ c .before .before .b .given .1
 
-below : (c : tie.After-first-slot) → c .before .before .b .given .0 .0 < 16
+below : (c : tie.After-first-slot) → c .before .before .b .given .0 .0 < blockCount
 below c = find-below _ _ _ (at c)
 
 sub-i : tie.Need-sub-i

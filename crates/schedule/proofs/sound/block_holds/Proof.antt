@@ -6,12 +6,13 @@ use denote.Ref.{now}
 use lib.ListN.{length}
 use lib.Seq.{length-take-le}
 use borrow.Author.Needs.{needs}
+use Rattle.rules.specs.Calendar.{slotsOfDay}
 use Rattle.calendar.proofs.Laws.{days-range}
 use Rattle.schedule.proofs.StoreLaws.{block-parts}
 use Rattle.schedule.proofs.sound.block_holds.Statement.{statement}
 use Rattle.schedule.proofs.sound.block_holds.Tie as tie
 
-within : (c : tie.After-days-of-month) → 48 * c .days-of-month .result ≤ length (now (c .before .before .args .block))
+within : (c : tie.After-days-of-month) → slotsOfDay * c .days-of-month .result ≤ length (now (c .before .before .args .block))
 within c = omega (arith, c .before .before .pre, c .days-of-month .ensures, days-range (c .before .before .args .month))
 
 days-of-month-requires : tie.Need-days-of-month-requires
@@ -23,11 +24,11 @@ cast-end c = search needs
 mul-end : tie.Need-mul-end
 mul-end c = omega (arith, within c)
 
-slice-aggregate-all-rates : tie.Need-slice-aggregate-all-rates
-slice-aggregate-all-rates c = sym (length-take-le (48 * c .before .days-of-month .result) (now (c .before .before .before .args .block)) (within (c .before)))
+slice-aggregate-all-lawful : tie.Need-slice-aggregate-all-lawful
+slice-aggregate-all-lawful c = sym (length-take-le (slotsOfDay * c .before .days-of-month .result) (now (c .before .before .before .args .block)) (within (c .before)))
 
-all-rates-requires : tie.Need-all-rates-requires
-all-rates-requires c κs = search needs
+all-lawful-requires : tie.Need-all-lawful-requires
+all-lawful-requires c κs = search needs
 
 sub-all-blank : tie.Need-sub-all-blank
 sub-all-blank c = omega (arith, within (c .before .before))
@@ -45,7 +46,7 @@ returns : tie.Need-returns
 returns c =
     let d = c .before .before .before .before in
     let a = d .before .before .args in
-    block-parts (a .month) (48 * d .days-of-month .result) (now (a .block)) _ _ (omega (arith, d .days-of-month .ensures)) (c .before .before .all-rates .ensures) (c .all-blank .ensures)
+    block-parts (a .month) (slotsOfDay * d .days-of-month .result) (now (a .block)) _ _ (omega (arith, d .days-of-month .ensures)) (c .before .before .all-lawful .ensures) (c .all-blank .ensures)
 
 pub block-holds-spec : {M : Type 1} → statement M
 block-holds-spec =
@@ -54,8 +55,8 @@ block-holds-spec =
     days-of-month-requires
     cast-end
     mul-end
-    slice-aggregate-all-rates
-    all-rates-requires
+    slice-aggregate-all-lawful
+    all-lawful-requires
     sub-all-blank
     part-all-blank-start
     part-all-blank-end

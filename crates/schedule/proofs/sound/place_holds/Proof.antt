@@ -5,7 +5,7 @@ use native.Mathlib.Omega.{arith}
 use denote.Ref.{now}
 use borrow.Author.Needs.{needs}
 use borrow.Author.Tests.{eq-eqb, ne-eqb}
-use Rattle.rules.specs.Store.{soundBlock}
+use Rattle.rules.specs.Store.{soundBlock, blockLength}
 use Rattle.pool.specs.Blocks.{monthOf}
 use Rattle.schedule.proofs.StoreLaws.{place-free, place-used, part-length, part-of}
 use Rattle.schedule.proofs.sound.place_holds.Statement.{statement}
@@ -46,13 +46,13 @@ part-block-holds-end c = search needs
 block-holds-requires : tie.Need-block-holds-requires
 block-holds-requires c κs =
     let s = c .before .before .before .before .before in
-    part-length (now (s .args .store)) (s .args .b * 1488) 1488 (omega (arith, s .pre))
+    part-length (now (s .args .store)) (s .args .b * blockLength) blockLength (omega (arith, s .pre))
 
 returns-2 : tie.Need-returns-2
 returns-2 c =
     let a = c .before .before .before .before .before .before .args in
     c .block-holds .ensures
-    ∙ ap (soundBlock (monthOf (a .pool) (a .b))) (part-of (now (a .store)) (a .b * 1488) 1488)
+    ∙ ap (soundBlock (monthOf (a .pool) (a .b))) (part-of (now (a .store)) (a .b * blockLength) blockLength)
     ∙ place-used (a .pool) (now (a .store)) (a .b) (ne-eqb _ _ (c .before .before .before .if1 .left))
 
 pub place-holds-spec : {M : Type 1} → statement M

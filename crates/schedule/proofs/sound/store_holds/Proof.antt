@@ -3,17 +3,17 @@ use Prim.Native.Nat.{_≤_, _-_}
 use mathlib.Core.Path.{_≡_}
 use native.Mathlib.Omega.{arith}
 use denote.Ref.{now}
-use Rattle.rules.specs.Store.{soundStore}
+use Rattle.rules.specs.Store.{soundStore, blockCount}
 use Rattle.pool.specs.Held.{heldBelow}
 use Rattle.schedule.proofs.StoreLaws.{store-none, store-step, store-end, store-other}
 use Rattle.schedule.proofs.sound.store_holds.Statement.{statement}
 use Rattle.schedule.proofs.sound.store_holds.Tie as tie
 
 abbrev Inv-loop : tie.InvT-loop
-Inv-loop pool store good₀ b₀ good b = (b ≤ 16) × (good ≡ soundStore (heldBelow b pool) store)
+Inv-loop pool store good₀ b₀ good b = (b ≤ blockCount) × (good ≡ soundStore (heldBelow b pool) store)
 
 abbrev μ-loop : tie.MeasureT-loop
-μ-loop pool store good₀ b₀ good b = 16 - b
+μ-loop pool store good₀ b₀ good b = blockCount - b
 
 returns : tie.Need-returns Inv-loop μ-loop
 returns c = let a = c .before .before .args in store-other (a .pool) (now (a .store)) (c .if1 .taken)

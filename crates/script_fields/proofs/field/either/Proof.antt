@@ -1,4 +1,4 @@
--- `fields::field::either` meets its contract: a marked word, an empty one, and a plain one. Assumes nothing.
+-- `script_fields::field::either` meets its contract: a marked word, an empty one, and a plain one. Assumes nothing.
 use mathlib.Core.Path.{sym, _∙_, ap}
 use mathlib.Core.List.{List, map}
 use Prim.Native.Nat.{ℕ}

@@ -1,4 +1,4 @@
--- `fields::field::hex_of` meets its contract. Assumes nothing.
+-- `script_fields::field::hex_of` meets its contract. Assumes nothing.
 use mathlib.Core.Path.{sym, _∙_, refl}
 use mathlib.Core.List.{List, []}
 use Prim.Native.Nat.{ℕ}

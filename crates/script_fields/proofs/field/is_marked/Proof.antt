@@ -1,4 +1,4 @@
--- `fields::field::is_marked` meets its contract. Assumes nothing.
+-- `script_fields::field::is_marked` meets its contract. Assumes nothing.
 use mathlib.Core.Path.{sym, _∙_}
 use borrow.Author.Needs.{needs}
 use borrow.Author.Tests.{le-leb, lt-leb}

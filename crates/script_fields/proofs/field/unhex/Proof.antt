@@ -1,4 +1,4 @@
--- `fields::field::unhex` meets its contract. Assumes nothing.
+-- `script_fields::field::unhex` meets its contract. Assumes nothing.
 use mathlib.Core.Path.{sym, _∙_}
 use native.Mathlib.Omega.{arith}
 use borrow.Author.Needs.{needs}

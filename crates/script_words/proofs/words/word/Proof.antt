@@ -1,4 +1,4 @@
--- `words::words::word` meets its contract: a word fewer of what is left of the line. Assumes nothing.
+-- `script_words::words::word` meets its contract: a word fewer of what is left of the line. Assumes nothing.
 use Prim.Native.Nat.{ℕ, _≤_, _-_, _+_}
 use mathlib.Core.Path.{_≡_, _∙_, sym, refl}
 use native.Mathlib.Omega.{arith}

@@ -55,11 +55,11 @@ returns-2 c =
     let r = take-unsound _ _ _ _ (long h) (sym (tested h) ∙ not-true _ (c .before .if2 .taken)) in
     (c .refuse2 .ensures ∙ r .0, r .1)
 
+enum-known-clock : tie.Need-enum-known-clock
+enum-known-clock c = search needs
+
 enum-told : tie.Need-enum-told
 enum-told c = search needs
-
-enum-told-2 : tie.Need-enum-told-2
-enum-told-2 c = search needs
 
 refuse-requires-3 : tie.Need-refuse-requires-3
 refuse-requires-3 c κs = search needs
@@ -70,7 +70,7 @@ same-length-2 c = search needs
 returns-3 : tie.Need-returns-3
 returns-3 c =
     let e = c .before .before .before in
-    let r = take-unset _ _ _ _ (long (e .before)) (good e) (c .before .enum-told2 .given .1) in
+    let r = take-unset _ _ _ _ (long (e .before)) (good e) (c .before .enum-told .given .1) in
     (c .refuse3 .ensures ∙ r .0, r .1)
 
 slice-aggregate-read-to-take : tie.Need-slice-aggregate-read-to-take
@@ -93,7 +93,7 @@ abbrev at-read : tie.After-summary → tie.After-read-to-take
 at-read c = c .before .before
 
 abbrev entry : tie.After-read-to-take → tie.Start
-entry c = start (c .before .before .before .before .before .before)
+entry c = start (c .before .before .before .before .before .before .before)
 
 got : (c : tie.After-summary) → readingOf (takeFile (entry (at-read c) .args .unit .plant .id) (now (entry (at-read c) .args .name)) (now (entry (at-read c) .args .body))) ≡ Read (c .summary .given .0 .0)
 got c = sym (at-read c .read-to-take .ensures) ∙ c .summary .given .1
@@ -114,9 +114,9 @@ returns-4 : tie.Need-returns-4
 returns-4 c =
     let n = c .before .before .before in
     let s = n .before .before in
-    let k = at-read s .before .before .before in
+    let k = at-read s .before .before .before .before in
     let e = k .before .before in
-    let r = take-full _ _ _ _ (long (e .before)) (good e) _ (k .enum-told .given .1) _ (got s) _ _ (c .before .before .free-count .ensures) (n .missing .ensures) (c .before .if3 .taken) in
+    let r = take-full _ _ _ _ (long (e .before)) (good e) _ (k .clock .given .1) _ (got s) _ _ (c .before .before .free-count .ensures) (n .missing .ensures) (c .before .if3 .taken) in
     (c .refuse5 .ensures ∙ r .0, r .1)
 
 sub-put-records : tie.Need-sub-put-records
@@ -144,9 +144,9 @@ returns-5 : tie.Need-returns-5
 returns-5 c =
     let a = c .before .before in
     let b = a .before .before in
-    let k = b .before .before .before in
+    let k = b .before .before .before .before in
     let e = k .before .before in
-    let r = take-refused _ _ _ _ (long (e .before)) (good e) _ (k .enum-told .given .1) _ (sym (b .read-to-take .ensures) ∙ a .cause .given .1) in
+    let r = take-refused _ _ _ _ (long (e .before)) (good e) _ (k .clock .given .1) _ (sym (b .read-to-take .ensures) ∙ a .cause .given .1) in
     (c .refuse4 .ensures ∙ r .0, r .1)
 
 same-length-5 : tie.Need-same-length-5
@@ -159,9 +159,9 @@ returns-6 c =
     let f = d .before in
     let n = f .before in
     let s = n .before .before in
-    let k = at-read s .before .before .before in
+    let k = at-read s .before .before .before .before in
     let e = k .before .before in
-    let r = take-done _ _ _ _ (long (e .before)) (good e) _ (k .enum-told .given .1) _ (got s) _ _ (f .free-count .ensures) (n .missing .ensures) (d .if3 .left) _ _ _ (p .put-records .ensures) (c .before .take-requests .ensures) in
+    let r = take-done _ _ _ _ (long (e .before)) (good e) _ (k .clock .given .1) _ (got s) _ _ (f .free-count .ensures) (n .missing .ensures) (d .if3 .left) _ _ _ (p .put-records .ensures) (c .before .take-requests .ensures) in
     (c .filed .ensures ∙ r .0, r .1)
 
 pub take-file-spec : {M : Type 1} → statement M
@@ -175,8 +175,8 @@ take-file-spec =
     refuse-requires-2
     same-length
     returns-2
+    enum-known-clock
     enum-told
-    enum-told-2
     refuse-requires-3
     same-length-2
     returns-3

@@ -8,6 +8,7 @@ use borrow.Author.Tests.{not-true, not-false}
 use lib.Dec.{leb, eqb}
 use lib.ListN.{length}
 use Rattle.rules.specs.Digits.{digits}
+use Rattle.rules.specs.Calendar.{monthCount}
 use Rattle.calendar.proofs.Tests.{both}
 use Rattle.calendar.proofs.Laws.{first-slot-monotone}
 use Rattle.writer.specs.Plan.{monthBegun}
@@ -48,7 +49,7 @@ start c = entry c .before .before .before .before .before .before
 -- and the test
 abbrev lengths : tie.After-first-slot2 → Bool
 lengths c =
-    leb (month c .first .given .0 .0 + start c .args .count) 1200
+    leb (month c .first .given .0 .0 + start c .args .count) monthCount
     && eqb (length (now (start c .args .rates))) (c .before .first-slot .result - c .first-slot2 .result)
 
 length-tested : (c : tie.After-first-slot2) (t : Bool) → lengths c ≡ t

@@ -1,4 +1,4 @@
--- `sound::all_rates` meets its contract. The loop's invariant: `worst` is a rate's rank where the bytes below i are rates or 255. Assumes nothing.
+-- `sound::all_lawful` meets its contract. The loop's invariant: `worst` is a rate's rank where the bytes below i are rates or 255. Assumes nothing.
 use Prim.Native.Nat.{_≤_, _-_}
 use mathlib.Core.Path.{_≡_, _∙_, refl, sym}
 use mathlib.Core.Bool.{_&&_}
@@ -6,14 +6,14 @@ use native.Mathlib.Omega.{arith}
 use denote.Ref.{now}
 use lib.Dec.{leb}
 use lib.ListN.{length, drop}
-use Rattle.rules.specs.Store.{all}
-use Rattle.schedule.specs.Rates.{rateByte}
+use Rattle.rules.specs.Store.{all, lawfulByte}
+use Rattle.schedule.specs.Rates.{highestRank}
 use Rattle.schedule.proofs.StoreLaws.{rates-step, scan-end}
-use Rattle.schedule.proofs.sound.all_rates.Statement.{statement}
-use Rattle.schedule.proofs.sound.all_rates.Tie as tie
+use Rattle.schedule.proofs.sound.all_lawful.Statement.{statement}
+use Rattle.schedule.proofs.sound.all_lawful.Tie as tie
 
 abbrev Inv-loop : tie.InvT-loop
-Inv-loop s worst₀ i₀ worst i = (i ≤ length s) × (all rateByte s ≡ (leb worst 101 && all rateByte (drop i s)))
+Inv-loop s worst₀ i₀ worst i = (i ≤ length s) × (all lawfulByte s ≡ (leb worst highestRank && all lawfulByte (drop i s)))
 
 abbrev μ-loop : tie.MeasureT-loop
 μ-loop s worst₀ i₀ worst i = length s - i
@@ -47,10 +47,10 @@ loop-again c =
 returns : tie.Need-returns Inv-loop μ-loop
 returns c =
     let l = c .before .loop in
-    sym (l .inv .1 ∙ scan-end rateByte (now (c .before .before .before .args .s)) (l .i) (leb (l .worst) 101) (c .loop-test .left))
+    sym (l .inv .1 ∙ scan-end lawfulByte (now (c .before .before .before .args .s)) (l .i) (leb (l .worst) highestRank) (c .loop-test .left))
 
-pub all-rates-spec : {M : Type 1} → statement M
-all-rates-spec =
+pub all-lawful-spec : {M : Type 1} → statement M
+all-lawful-spec =
     tie.close
     (tie.spec
     Inv-loop
