@@ -5,18 +5,13 @@ use mathlib.Core.Path.{_≡_, _∙_, refl, ap}
 use mathlib.Core.Bool.{true}
 use mathlib.Core.List.{List}
 use mathlib.Core.Option.{some}
-
 use native.Mathlib.Omega.{arith}
 use lib.ListN.{length, getElem?, take, drop, length-drop}
 use lib.Seq.{drop-drop}
 use Rattle.rules.specs.Digits.{part}
-
 use Rattle.rules.specs.Body.{countOf, tailDigits, ratesOf, sizeOf, recordShape, recordAt}
-
 use Rattle.rules.specs.declared.Format.{Format}
-
 use Rattle.body.specs.Walk.{shaped, recordsFrom, recordStart, Whole}
-
 use Rattle.body.proofs.Parts.{both}
 use Rattle.body.proofs.Walk.{whole}
 

@@ -194,5 +194,3 @@ module _ (f : Format) (segment plant here there : List ℕ) where
   unfolding readingOf
   created-free none = refl
   created-free (some b) = body-free b
-
--- ---- a name's segment as a number

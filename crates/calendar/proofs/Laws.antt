@@ -186,5 +186,3 @@ slot-month-monotone a b l = go (ltb b slotCount) refl
 
 pub month-slot : (t : ℕ) → monthOf t ≡ monthOfSlot (slotOf t)
 month-slot t = let e : t / dayLength ≡ t / slotLength / slotsOfDay = omega arith in ap monthOfDay e
-
--- ---- the leap rule

@@ -98,5 +98,3 @@ read-small plant name body = named (parseName name)
     named : (o : Option Name) → SmallFile (withName plant body o)
     named none = tt
     named (some n) = need-small (idFits plant (n .plant)) Cause.OtherPlant _ (λ _. staged n (parseBody (n .format) body) refl)
-
--- ---- the line

@@ -81,7 +81,14 @@ fn over(plant: Plant, pool: Pool, store: &[u8], clock: u32, until: u32, command:
     let rest = SLOT_LENGTH * (first + 1) - 1 - clock;
     let left = in_slot(plant, pool, store, first, rest, command);
     let stands = between(plant, pool, store, first, last, left);
-    in_slot(plant, pool, store, last, until - SLOT_LENGTH * last + 1, stands)
+    in_slot(
+        plant,
+        pool,
+        store,
+        last,
+        until - SLOT_LENGTH * last + 1,
+        stands,
+    )
 }
 
 // The command after a tick from clock to until, from what the pool and the store say before it.

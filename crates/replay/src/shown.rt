@@ -1,8 +1,8 @@
 // What a unit has, for `state` and `block`: each function puts text into the output and gives the place behind it.
-use pool::Found;
-use pool::Pool;
 use polling::NO_FLAG;
 use polling::Requests;
+use pool::Found;
+use pool::Pool;
 use rules::MONTH_COUNT;
 use unit::Clock;
 use unit::Unit;

@@ -133,7 +133,9 @@ fn can_put(slot: u32, count: usize, bytes: usize) -> bool
 {
     let end = slot as usize + count;
     let month = calendar::month_of_slot(slot);
-    (bytes == STORE_LENGTH) & (end <= SLOT_COUNT) & (end <= calendar::first_slot(month + 2) as usize)
+    (bytes == STORE_LENGTH)
+        & (end <= SLOT_COUNT)
+        & (end <= calendar::first_slot(month + 2) as usize)
 }
 
 // Puts the rates of consecutive slots, from a slot on, into the blocks of their months; what cannot be put changes nothing.
