@@ -25,7 +25,7 @@ use Rattle.about_files.specs.Writing.{endToEnd, sharedSchedule, fieldsOf as fie
 use Rattle.about_files.proofs.Booleans.{join, equal-same}
 use Rattle.about_files.proofs.Body.{schedule-facts}
 use Rattle.about_files.proofs.Rewritten.{read-written, read-written-with-plant}
-use Rattle.writer.specs.Fields.{fieldsOf}
+use Rattle.plan.specs.Fields.{fieldsOf}
 use Rattle.records.specs.Reading.{fieldIn, recordsOf, recordIn, ratesOutput}
 use Rattle.records.specs.declared.Field.{Field}
 use Rattle.records.specs.declared.Field.the-variants.{Schedule, Plant, Start, Next}

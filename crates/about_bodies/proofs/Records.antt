@@ -13,9 +13,8 @@ use Rattle.rules.specs.File.{File, file, readFile, recordsIn}
 use Rattle.rules.specs.declared.Cause.{Cause}
 use Rattle.rules.specs.declared.Format.{Format}
 use Rattle.rules.specs.declared.Format.the-variants.{F203}
-use Rattle.body.specs.Walk.{recordStart}
-use Rattle.body.proofs.Laws.{record-whole}
-use Rattle.body.proofs.Starts.{rates-full}
+use Rattle.form.specs.Walk.{recordStart}
+use Rattle.form.proofs.Standing.{rates-full, record-whole}
 use Rattle.about_files.proofs.Body.{body-exactly}
 use Rattle.about_files.proofs.Reading.{read-exactly, lawful-facts}
 use Rattle.records.specs.Locating.{placesOf, placesAt, locate, from, size}

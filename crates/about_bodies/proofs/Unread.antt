@@ -9,7 +9,7 @@ use borrow.Author.Tests.{eqb-true}
 use Rattle.rules.specs.Calendar.{monthAt}
 use Rattle.rules.specs.Name.{formatOf}
 use Rattle.rules.specs.Writer.{Fields, writeBody, digitsFit, monthsFit, fieldRecords, monthRecords}
-use Rattle.writer.specs.Fields.{fieldsOf, monthFields}
+use Rattle.plan.specs.Fields.{fieldsOf, monthFields}
 use Rattle.writer.proofs.Months.{same-months}
 use Rattle.about_bodies.specs.Unread.{NotLookedAt}
 

@@ -24,7 +24,7 @@ use Rattle.rules.specs.declared.Reading.the-variants.{Read}
 use Rattle.about_files.specs.Writing.{endToEnd, firstStart, firstNext, NameFor, Carries, fileFor, ReadsBack}
 use Rattle.about_files.proofs.Booleans.{both, same-equal}
 use Rattle.about_files.proofs.Written.{Fit, Good, written-facts, fields-good, written-reads}
-use Rattle.writer.specs.Fields.{fieldsOf}
+use Rattle.plan.specs.Fields.{fieldsOf}
 use Rattle.records.specs.Reading.{fieldOf, fieldIn, recordsOf, recordIn, ratesOutput}
 use Rattle.records.specs.declared.Field.{Field}
 use Rattle.records.specs.declared.Field.the-variants.{Schedule, Plant, Start, Rates, Flag, Checksum, Next}

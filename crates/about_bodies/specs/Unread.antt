@@ -6,7 +6,7 @@ use mathlib.Core.Bool.{true, _||_}
 use mathlib.Core.List.{List}
 use lib.Dec.{eqb}
 use Rattle.rules.specs.Writer.{writeBody}
-use Rattle.writer.specs.Fields.{fieldsOf}
+use Rattle.plan.specs.Fields.{fieldsOf}
 
 -- with any other flag and next access `write_body` answers and writes the same, whatever the other arguments are
 abbrev pub NotLookedAt : Type 0

@@ -15,7 +15,7 @@ use Rattle.rules.specs.declared.Written.{Written}
 use Rattle.rules.specs.Reading.{summaryOf, readingOf}
 use Rattle.rules.specs.declared.Reading.the-variants.{Read}
 use Rattle.about_files.specs.Writing.{NameFor, fileFor}
-use Rattle.writer.specs.Fields.{fieldsOf}
+use Rattle.plan.specs.Fields.{fieldsOf}
 use Rattle.records.specs.Reading.{fieldIn, recordIn, ratesOutput}
 use Rattle.records.specs.declared.Field.the-variants.{Schedule, Plant, Start, Flag, Next}
 

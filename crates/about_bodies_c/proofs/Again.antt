@@ -21,10 +21,10 @@ use Rattle.rules.specs.Reading.{summaryOf, readingOf}
 use Rattle.rules.specs.declared.Summary.{Summary}
 use Rattle.rules.specs.declared.Reading.{Reading}
 use Rattle.rules.specs.declared.Reading.the-variants.{Read, Refused}
-use Rattle.body.proofs.Walk.{count-positive}
+use Rattle.form.proofs.Walk.{count-positive}
 use Rattle.about_files.proofs.Causes.{numbered}
 use Rattle.about_files.proofs.Name.{format-back}
-use Rattle.writer.specs.Fields.{fieldsOf}
+use Rattle.plan.specs.Fields.{fieldsOf}
 use Rattle.records.specs.Locating.{locate}
 use Rattle.records.specs.Reading.{fieldIn, recordIn, ratesOutput}
 use Rattle.records.specs.declared.Located.{Located}

@@ -10,7 +10,7 @@ use Rattle.rules.specs.Name.{formatOf}
 use Rattle.rules.specs.File.{readFile}
 use Rattle.rules.specs.Writer.{Fields, writtenOf, bufferAfter, writeBody}
 use Rattle.rules.specs.Reading.{readingOf}
-use Rattle.writer.specs.Fields.{fieldsOf}
+use Rattle.plan.specs.Fields.{fieldsOf}
 use Rattle.c_structs.specs.Answers.{fileNumbers, writtenNumbers}
 use Rattle.c_structs.specs.Places.{placesNumbers}
 use Rattle.c_structs.specs.declared.answers.FileAnswer.{FileAnswer}

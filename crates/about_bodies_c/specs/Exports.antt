@@ -12,7 +12,7 @@ use Rattle.rules.specs.File.{readFile}
 use Rattle.rules.specs.Reading.{readingOf}
 use Rattle.rules.specs.Writer.{writtenOf, bufferAfter, writeBody}
 use Rattle.rules.specs.ErrorFile.{errorCode, codeOf}
-use Rattle.writer.specs.Fields.{fieldsOf}
+use Rattle.plan.specs.Fields.{fieldsOf}
 use Rattle.c_structs.specs.Answers.{fileNumbers, writtenNumbers, errorNumbers}
 use Rattle.c_structs.specs.Places.{placesNumbers}
 use Rattle.c_structs.specs.declared.answers.FileAnswer.{FileAnswer}

@@ -1,7 +1,7 @@
 -- A 203 body of three rates, and what is kept of it; with a rate of 101 it is refused. Computed from the definitions.
 -- Assumes nothing.
 use mathlib.Core.Path.{_≡_, refl}
-use mathlib.Core.List.{List, [], _∷_, _++_}
+use mathlib.Core.List.{List, _∷_, _++_}
 use Prim.Native.Nat.{ℕ}
 use Rattle.rules.specs.Digits.{decimal, allAtMost, valueFrom, sameBytes}
 use Rattle.rules.specs.Calendar.{daysOfMonth, firstDay, exists, secondsOf, startSlot}

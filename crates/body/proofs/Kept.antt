@@ -1,59 +1,35 @@
 -- What is kept of an accepted schedule body is what `summaryOf` says of its file.
 -- Assumes nothing.
-use Prim.Native.Nat.{ℕ, zero, suc, _+_, _-_, _*_, _%_, _≤_}
+use Prim.Native.Nat.{ℕ, suc, _+_, _-_, _*_, _%_, _≤_}
 use mathlib.Core.Path.{_≡_, _∙_, refl, sym, ap}
 use mathlib.Core.Bool.{Bool, true, false≢true}
 use mathlib.Core.List.{List, [], _∷_}
 use mathlib.Core.Option.{Option, none, some}
-use native.Mathlib.Nat.{suc-mul, add-zero}
+use native.Mathlib.Nat.{add-zero}
 use native.Mathlib.Omega.{arith}
 use lib.Dec.{lit<}
-use borrow.Author.Tests.{eqb-true}
-use lib.ListN.{length, getD, take, drop, length-drop}
+use lib.ListN.{length, getD, take, drop}
 use lib.Seq.{getD-take, getD-drop}
 use Rattle.rules.specs.Digits.{part, value, decimal}
 use Rattle.rules.specs.Calendar.{exists, secondsOf, moment, wholeMinute, halfHour, startSlot}
-use Rattle.rules.specs.Body.{Record, countOf, tailDigits, ratesOf, sizeOf, recordShape, recordAt, every, isSchedule}
+use Rattle.rules.specs.Body.{Record, countOf, tailDigits, ratesOf, sizeOf, recordAt, every, isSchedule}
 use Rattle.rules.specs.File.{wholeMonth, monthsFrom, inTime, updateDates, recordDates, flagOf}
 use Rattle.rules.specs.Lister.{totalRates}
 use Rattle.rules.specs.declared.Format.{Format}
 use Rattle.rules.specs.declared.Format.the-variants.{F201, F202, F203, F301}
 use Rattle.calendar.specs.Moments.{momentOf}
 use Rattle.calendar.specs.declared.dates.Moment.the-variants.{At, Missing}
-use Rattle.body.specs.Walk.{shaped, recordsFrom, Whole, orZero, accessAt}
+use Rattle.form.specs.Walk.{shaped, recordsFrom, Whole}
+use Rattle.body.specs.Records.{orZero, accessAt}
 use Rattle.rules.specs.Reading.{firstStart, accessOf, summaryOf}
 use Rattle.body.specs.Reading.{nameOf, scheduleFile}
 use Rattle.rules.specs.declared.Summary.{Summary}
-use Rattle.body.proofs.Parts.{both, part-to}
-use Rattle.body.proofs.Walk.{count-positive, count-bound, whole, whole-start, records-step}
-use Rattle.dates.proofs.Starts.{begins-half, is-start, start-some, moment-some}
-use Rattle.body.proofs.Starts.{segment-value, start-digits, rates-full, next-digits, month-facts, or-at, or-missing}
-
--- ---- numbers of records and rates
-
-pub records-count : (f : Format) (k : ℕ) (s : List ℕ) → length (recordsFrom f k s) ≡ k
-unfolding recordsFrom
-records-count f zero s = refl
-records-count f (suc k) s = ap suc (records-count f k (drop (sizeOf f s) s))
-
-rates-here : (f : Format) (s : List ℕ) → Whole f s → length (recordAt f s .rates) ≡ ratesOf s
-unfolding recordAt
-rates-here f s w = rates-full f s w
-
--- the bytes of k records are their rates and as many others
-pub rates-total : (f : Format) (k : ℕ) (s : List ℕ) → shaped f k s ≡ true
-    → (length s ≡ k * (53 + tailDigits f) + totalRates (recordsFrom f k s)) × (totalRates (recordsFrom f k s) ≤ k * 99999)
-unfolding shaped recordsFrom totalRates sizeOf
-rates-total f zero s e = (omega (arith, eqb-true (length s) 0 e), omega arith)
-rates-total f (suc k) s e =
-    let b = both (recordShape f s) (shaped f k (drop (sizeOf f s) s)) e in
-    let w = whole f s (b .0) in
-    let t = rates-total f k (drop (sizeOf f s) s) (b .1) in
-    let n = rates-here f s w in
-    let l = length-drop (sizeOf f s) s in
-    let p = suc-mul k (53 + tailDigits f) in
-    let q = suc-mul k 99999 in
-    (omega (arith, w .room), omega (arith, w .few))
+use Rattle.digits.proofs.Parts.{both, part-to}
+use Rattle.calendar.proofs.Begins.{begins-half}
+use Rattle.layout.proofs.Starts.{is-start, start-some, moment-some}
+use Rattle.form.proofs.Walk.{count-positive, count-bound, whole-start, records-step}
+use Rattle.form.proofs.Standing.{start-digits, records-count, rates-total}
+use Rattle.body.proofs.Starts.{segment-value, next-digits, month-facts, or-at, or-missing}
 
 -- ---- flag, start and next access
 

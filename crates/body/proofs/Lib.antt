@@ -1,9 +1,5 @@
-pub mod Parts
-pub mod Walk
-pub mod Count
 pub mod Fields
 pub mod Starts
 pub mod Kept
 pub mod Outcomes
-pub mod Laws
 pub mod Examples

@@ -1,13 +1,13 @@
 -- Laws of reading: which answer each stage's result gives, and that the creation time of a name does not matter to its body.
 -- Assumes nothing.
-use Prim.Native.Nat.{ℕ, _-_, _%_, _≤_}
-use mathlib.Core.Path.{_≡_, _∙_, refl, sym, ap}
+use Prim.Native.Nat.{ℕ, _-_, _%_}
+use mathlib.Core.Path.{_≡_, _∙_, refl, sym}
 use mathlib.Core.Bool.{Bool, true, false, cond, false≢true}
 use mathlib.Core.List.{List, []}
-use mathlib.Core.Option.{Option, none, some, Option·map}
-use lib.Dec.{leb, eqb}
+use mathlib.Core.Option.{Option, none, some}
+use lib.Dec.{eqb}
 use lib.ListN.{length, getD, take, drop}
-use borrow.Author.Tests.{leb-true, eqb-true}
+use borrow.Author.Tests.{eqb-true}
 use Rattle.rules.specs.Digits.{part, allDigits, sameBytes}
 use Rattle.rules.specs.Name.{Name}
 use Rattle.rules.specs.Body.{Record, Body, schedule, registration, countOf, parseRegistration, parseRest, parseBody, counted, every, isSchedule}
@@ -16,7 +16,9 @@ use Rattle.rules.specs.Table.{need}
 use Rattle.rules.specs.declared.Cause.{Cause}
 use Rattle.rules.specs.declared.Format.{Format}
 use Rattle.rules.specs.declared.Format.the-variants.{F201, F202, F203, F301}
-use Rattle.body.specs.Walk.{shaped, recordsFrom, holds, registered}
+use Rattle.form.specs.Walk.{shaped, recordsFrom, registered}
+use Rattle.form.proofs.Walk.{rest-is}
+use Rattle.body.specs.Records.{holds}
 use Rattle.rules.specs.Reading.{summaryOf, readingOf}
 use Rattle.body.specs.Reading.{nameOf, scheduleFile}
 use Rattle.rules.specs.declared.Summary.{Summary}
@@ -24,8 +26,7 @@ use Rattle.rules.specs.declared.Reading.{Reading}
 use Rattle.rules.specs.declared.Reading.the-variants.{Read, Refused}
 use Rattle.body.specs.declared.stages.Stage.the-variants.{Rates, Checksums, Plants}
 use Rattle.digits.proofs.Scan.{part-rest}
-use Rattle.body.proofs.Parts.{both}
-use Rattle.body.proofs.Walk.{parse-is}
+use Rattle.digits.proofs.Parts.{both}
 use Rattle.body.proofs.Starts.{segment-value}
 
 -- the answer of the stages 10 to 13, each of which passed or did not
@@ -61,19 +62,9 @@ dates-same F301 n m rs e = refl
 -- ---- a schedule
 
 module _ (f : Format) (segment : ℕ) (plant s : List ℕ) (i : isSchedule f ≡ true) where
-  pub rest-is : parseRest f s ≡ Option·map schedule (cond (shaped f (countOf f) s) (some (recordsFrom f (countOf f) s)) none)
-  rest-is = go f i
-    where
-      go : (f : Format) → isSchedule f ≡ true
-          → parseRest f s ≡ Option·map schedule (cond (shaped f (countOf f) s) (some (recordsFrom f (countOf f) s)) none)
-      go F201 i = ap (Option·map schedule) (parse-is F201 13 s)
-      go F202 i = ap (Option·map schedule) (parse-is F202 1 s)
-      go F203 i = ap (Option·map schedule) (parse-is F203 1 s)
-      go F301 i = absurd (false≢true i)
-
   pub no-form : shaped f (countOf f) s ≡ false → Refused Cause.Form ≡ readingOf (withBody (nameOf f segment plant) (parseRest f s))
   unfolding readingOf
-  no-form e = rw (rest-is, e) refl
+  no-form e = rw (rest-is f s i, e) refl
 
   module _ (e : shaped f (countOf f) s ≡ true) where
     pub schedule-is : readingOf (withBody (nameOf f segment plant) (parseRest f s))
@@ -84,7 +75,7 @@ module _ (f : Format) (segment : ℕ) (plant s : List ℕ) (i : isSchedule f ≡
         (Read (summaryOf (scheduleFile f segment [] (recordsFrom f (countOf f) s))))
     unfolding datesHold ratesHold checksumsHold plantsHold summaryOf
     schedule-is =
-        rw (rest-is, e)
+        rw (rest-is f s i, e)
         (stages-are (nameOf f segment plant) (schedule (recordsFrom f (countOf f) s))
         ∙ rw (dates-same f (nameOf f segment plant) (nameOf f segment []) (recordsFrom f (countOf f) s) refl) refl)
 
@@ -169,10 +160,6 @@ with-registration F201 segment plant body i e = absurd (false≢true (sym i))
 with-registration F202 segment plant body i e = absurd (false≢true (sym i))
 with-registration F203 segment plant body i e = absurd (false≢true (sym i))
 with-registration F301 segment plant body i e = with-count F301 (nameOf F301 segment plant) body e
-
-pub count-room : (f : Format) (body : List ℕ) → true ≡ counted f body → 6 ≤ length body
-unfolding counted
-count-room f body e = leb-true 6 (length body) (both (leb 6 (length body)) (allDigits (part body 0 6)) (both _ _ (sym e) .0) .0)
 
 -- ---- the creation time
 

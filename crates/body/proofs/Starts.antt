@@ -2,12 +2,12 @@
 -- Assumes nothing.
 use Prim.Native.Nat.{ℕ, zero, suc, _+_, _-_, _%_, _≤_, _<_}
 use mathlib.Core.Path.{_≡_, _∙_, refl, sym, ap}
-use mathlib.Core.Bool.{Bool, true, false, _&&_, and-true}
+use mathlib.Core.Bool.{Bool, true, false, _&&_, and-true, false≢true}
 use mathlib.Core.List.{List, []}
 use mathlib.Core.Option.{Option}
 use native.Mathlib.Numerals.{add-one}
 use native.Mathlib.Omega.{arith}
-use lib.Dec.{lit≤}
+use lib.Dec.{eqb, lit≤}
 use lib.ListN.{length, take, drop}
 use borrow.Author.Tests.{eqb-true}
 use Rattle.rules.specs.Digits.{part, digits, valueFrom, value, decimal}
@@ -17,15 +17,18 @@ use Rattle.rules.specs.Body.{Record, countOf, ratesOf, sizeOf, recordAt, every}
 use Rattle.rules.specs.File.{monthBegins, wholeMonth, monthsFrom, updateDates, recordDates}
 use Rattle.rules.specs.declared.Format.{Format}
 use Rattle.rules.specs.declared.Format.the-variants.{F201, F202, F203}
-use Rattle.calendar.specs.Moments.{momentOf}
+use Rattle.calendar.specs.Moments.{momentOf, monthBegun}
 use Rattle.calendar.specs.declared.dates.Moment.the-variants.{At, Missing}
-use Rattle.dates.specs.Dates.{startMonth, monthHolds, updateHolds}
-use Rattle.dates.proofs.Numbers.{month-long}
-use Rattle.dates.proofs.Starts.{missing-none, at-some}
-use Rattle.body.specs.Walk.{recordsFrom, Whole, orZero}
+use Rattle.calendar.specs.declared.dates.Begun.the-variants.{Nothing}
+use Rattle.calendar.proofs.DateLaws.{missing-none, at-some}
+use Rattle.calendar.proofs.Begins.{begun-none}
+use Rattle.digits.proofs.Parts.{both, part-length, part-to, at-most-part}
+use Rattle.layout.specs.Dates.{monthHolds, updateHolds}
+use Rattle.form.specs.Walk.{shaped, recordsFrom, Whole}
+use Rattle.form.proofs.Walk.{count-positive, whole-start, records-end, records-step}
+use Rattle.form.proofs.Standing.{start-digits, rates-full}
+use Rattle.body.specs.Records.{orZero}
 use Rattle.body.specs.Reading.{nameOf}
-use Rattle.body.proofs.Parts.{both, part-length, part-to, at-most-part}
-use Rattle.body.proofs.Walk.{records-end, records-step}
 
 pub segment-value : (n : ℕ) → value (decimal 4 n) ≡ n % 10000
 unfolding decimal valueFrom
@@ -40,22 +43,25 @@ or-missing o e = rw (missing-none o e) refl
 -- ---- the fields of a record that stands at the front of s
 
 module _ (f : Format) (s : List ℕ) (w : Whole f s) where
-  pub start-full : length (part s 36 12) ≡ 12
-  start-full = part-length s 36 12 (omega (arith, w .room))
-
-  pub start-digits : digits 12 (part s 36 12) ≡ true
-  start-digits = rw (start-full, at-most-part 9 s 0 48 36 12 (lit≤ tt) (w .head)) refl
-
-  pub rates-full : length (part s 53 (ratesOf s)) ≡ ratesOf s
-  rates-full = part-length s 53 (ratesOf s) (omega (arith, w .room))
-
-  pub start-month-is : {m : ℕ} → m ≡ startMonth (part s 36 12) → m ≡ monthAt (part s 36 12)
-  start-month-is e = let full = start-full in e ∙ month-long (part s 36 12) (omega arith)
-
   -- what `is_whole_month` answers is what the record's fields say
   pub month-holds : (m n : ℕ) {b : Bool} → n ≡ ratesOf s → b ≡ monthHolds m (part s 36 12) n → b ≡ wholeMonth m (recordAt f s)
   unfolding monthHolds wholeMonth recordAt
-  month-holds m n n≡ e = e ∙ rw (start-digits, rates-full, n≡) refl
+  month-holds m n n≡ e = e ∙ rw (start-digits f s w, rates-full f s w, n≡) refl
+
+  -- a start that begins no month is the whole of none
+  no-whole : Nothing ≡ monthBegun (part s 36 12) → (m : ℕ) → wholeMonth m (recordAt f s) ≡ false
+  unfolding wholeMonth recordAt
+  no-whole e m =
+      let t = part s 36 12 in
+      let d : digits 12 t ≡ true = start-digits f s w in
+      let n : (exists (wholeMinute t) && monthBegins t) ≡ false = rw d at (begun-none t e) in
+      go (exists (wholeMinute t)) (monthBegins t) (eqb (monthAt t) m) (eqb (length (part s 53 (ratesOf s))) (slotsOfMonth m)) n
+    where
+      go : (a b c d : Bool) → (a && b) ≡ false → (a && c && b && d) ≡ false
+      go false b c d n = refl
+      go true true c d n = absurd (false≢true (sym n))
+      go true false true d n = refl
+      go true false false d n = refl
 
 -- the same of a 203: n is the rate count
 module _ (s : List ℕ) (w : Whole F203 s) (n : ℕ) (n≡ : n ≡ ratesOf s) where
@@ -101,15 +107,20 @@ module _ (m : ℕ) (f : Format) (t : List ℕ) where
   months-stop zero h e = absurd (omega arith)
   months-stop (suc k) h e = rw e refl
 
+-- where the first record begins no month, no month serves
+pub months-none : (f : Format) (s : List ℕ) → shaped f (countOf f) s ≡ true → Nothing ≡ monthBegun (part s 36 12) → (m : ℕ)
+    → false ≡ monthsFrom m (recordsFrom f (countOf f) s)
+months-none f s e n m = sym (months-stop m f s (countOf f) (count-positive f) (no-whole f s (whole-start f s e) n m))
+
 -- ---- the dates of each format: b is what the stage answers
 
 module _ (f : Format) (segment : ℕ) (s : List ℕ) {b : Bool} where
-  pub dates-201 : f ≡ F201 → (m : ℕ) → m ≡ monthAt (part s 36 12) → b ≡ monthsFrom m (recordsFrom f (countOf f) s)
+  pub dates-201 : f ≡ F201 → b ≡ monthsFrom (monthAt (part s 36 12)) (recordsFrom f (countOf f) s)
       → b ≡ recordDates (nameOf f segment []) f (recordsFrom f (countOf f) s)
   unfolding recordsFrom recordAt
-  dates-201 e m m≡ h =
-      let g : b ≡ monthsFrom m (recordsFrom F201 13 s) = rw e at h in
-      rw e (g ∙ ap (λ (k : ℕ). monthsFrom k (recordsFrom F201 13 s)) m≡)
+  dates-201 e h =
+      let g : b ≡ monthsFrom (monthAt (part s 36 12)) (recordsFrom F201 13 s) = rw e at h in
+      rw e g
 
   pub dates-202 : f ≡ F202 → (m : ℕ) → m ≡ segmentMonth (decimal 4 segment) → b ≡ monthsFrom m (recordsFrom f (countOf f) s)
       → b ≡ recordDates (nameOf f segment []) f (recordsFrom f (countOf f) s)

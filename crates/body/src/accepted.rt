@@ -2,7 +2,7 @@
 ghost use mathlib.Core.Path.{_≡_};
 ghost use mathlib.Core.Bool.{true};
 ghost use mathlib.Core.List.{[], _∷_};
-ghost use Prim.Native.Nat.{_+_, _≤_};
+ghost use Prim.Native.Nat.{_≤_};
 ghost use lib.ListN.{length};
 ghost use Rattle.rules.specs.Digits.{part};
 ghost use Rattle.rules.specs.Calendar.{moment, startSlot};
@@ -10,17 +10,14 @@ ghost use Rattle.rules.specs.Body.{countOf, recordAt, isSchedule};
 ghost use Rattle.rules.specs.File.{flagOf, recordDates};
 ghost use Rattle.rules.specs.Reading.{summaryOf};
 ghost use Rattle.rules.specs.declared.Format.the-variants.{F203};
-ghost use Rattle.body.specs.Walk.{shaped, recordsFrom, Whole, orZero, accessAt};
+ghost use Rattle.layout.specs.Places.{startPlace, startDigits, ratesPlace};
+ghost use Rattle.form.specs.Walk.{shaped, recordsFrom, Whole};
+ghost use Rattle.body.specs.Records.{orZero, accessAt};
 ghost use Rattle.body.specs.Reading.{nameOf, scheduleFile};
-use crate::places::CHECKSUM_DIGITS;
-use crate::places::NEXT_DIGITS;
-use crate::places::RATE_COUNT;
-use crate::places::RATES;
-use crate::places::START;
-use crate::places::fixed_bytes;
-use crate::places::rate_count;
-use crate::places::record_count;
 use calendar::Moment;
+use layout::RATE_COUNT;
+use layout::RATES;
+use layout::START;
 use rules::Format;
 use rules::Summary;
 
@@ -29,8 +26,8 @@ pub const SEGMENTS: u16 = 10000;
 
 // The first slot of the record at the front of `s`; 0 where its start is no slot's.
 fn start_at(s: &[u8]) -> u32
-    requires { ⌜ 53 ≤ length (now s) ⌝ }
-    ensures { λ r. ⌜ r ≡ orZero (startSlot (part (now (s .entry)) 36 12)) ⌝ }
+    requires { ⌜ ratesPlace ≤ length (now s) ⌝ }
+    ensures { λ r. ⌜ r ≡ orZero (startSlot (part (now (s .entry)) startPlace startDigits)) ⌝ }
 {
     match calendar::start_slot(&s[START..RATE_COUNT]) {
         Moment::At(slot) => slot,
@@ -43,7 +40,7 @@ fn flag_at(format: Format, s: &[u8]) -> u8
     requires { ⌜ Whole format (now s) ⌝ }
     ensures { λ r. ⌜ r ≡ flagOf (recordAt format (now (s .entry)) ∷ []) ⌝ }
 {
-    let at = RATES + rate_count(s) as usize;
+    let at = RATES + layout::rate_count(s) as usize;
     match format {
         Format::F201 => 0,
         Format::F202 => 0,
@@ -57,8 +54,11 @@ fn next_at(s: &[u8]) -> u32
     requires { ⌜ Whole F203 (now s) ⌝ }
     ensures { λ r. ⌜ r ≡ orZero (moment (recordAt F203 (now (s .entry)) .next)) ⌝ }
 {
-    let next = RATES + rate_count(s) as usize + 1 + CHECKSUM_DIGITS;
-    let end = next + NEXT_DIGITS;
+    let next = RATES
+        + layout::rate_count(s) as usize
+        + layout::FLAG_DIGITS
+        + layout::CHECKSUM_DIGITS;
+    let end = next + layout::NEXT_DIGITS;
     match calendar::read_moment(&s[next..end]) {
         Moment::At(second) => second,
         Moment::Missing => 0,
@@ -85,11 +85,11 @@ pub(crate) fn schedule_summary(format: Format, segment: u16, s: &[u8]) -> Summar
     requires { ⌜ recordDates (nameOf format segment []) format (recordsFrom format (countOf format) (now s)) ≡ true ⌝ }
     ensures { λ r. ⌜ r ≡ summaryOf (scheduleFile format segment [] (recordsFrom format (countOf format) (now (s .entry)))) ⌝ }
 {
-    let rates = s.len() - fixed_bytes(format);
+    let rates = s.len() - layout::fixed_bytes(format);
     Summary {
         format,
         segment: segment % SEGMENTS,
-        records: record_count(format),
+        records: layout::record_count(format),
         rates: rates as u32,
         start: start_at(s),
         flag: flag_at(format, s),

@@ -1,8 +1,6 @@
 // The body of a file, read under its name: each of the causes 9 to 13 is looked for in all records before the next.
 mod accepted;
 mod date_stage;
-mod form;
-mod places;
 mod stages;
 
 ghost use mathlib.Core.Path.{_≡_};
@@ -13,12 +11,6 @@ ghost use Rattle.rules.specs.Reading.{readingOf};
 ghost use Rattle.rules.specs.declared.Format.the-variants.{F301};
 ghost use Rattle.body.specs.Reading.{nameOf};
 use crate::stages::Stage;
-pub use form::count_holds;
-pub use form::records_stand;
-pub use places::fixed_bytes;
-pub use places::is_schedule;
-pub use places::record_count;
-pub use places::tail_digits;
 use rules::Cause;
 use rules::Format;
 use rules::Reading;
@@ -54,10 +46,10 @@ fn read_registration(segment: u16, plant: &[u8], s: &[u8]) -> Reading
     if !form::registration_stands(s) {
         return Reading::Refused(Cause::Form);
     }
-    if !digits::same(&s[0..places::RESULT], plant) {
+    if !digits::same(&s[0..layout::RESULT], plant) {
         return Reading::Refused(Cause::RecordPlant);
     }
-    let result = s[places::RESULT];
+    let result = s[layout::RESULT];
     Reading::Read(Summary {
         format: Format::F301,
         segment: segment % accepted::SEGMENTS,
@@ -77,8 +69,8 @@ pub fn read_body(format: Format, segment: u16, plant: &[u8], body: &[u8]) -> Rea
     if !form::count_holds(format, body) {
         return Reading::Refused(Cause::Form);
     }
-    let s = &body[places::RECORDS..];
-    if places::is_schedule(format) {
+    let s = &body[layout::RECORDS..];
+    if layout::is_schedule(format) {
         return read_schedule(format, segment, plant, s);
     }
     read_registration(segment, plant, s)

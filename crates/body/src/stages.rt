@@ -1,19 +1,13 @@
 // Stages 11, 12 and 13: rates, checksums and plant IDs, of a body that has its form.
 ghost use mathlib.Core.Path.{_≡_};
 ghost use mathlib.Core.Bool.{true};
-ghost use Prim.Native.Nat.{_%_};
-ghost use Rattle.rules.specs.Body.{countOf, recordAt, every};
-ghost use Rattle.body.specs.Walk.{shaped, recordsFrom, Whole, ratesFit, checksumFits, holds};
-use crate::places::DAY;
-use crate::places::MONTH;
-use crate::places::PLANT;
-use crate::places::RATES;
-use crate::places::START;
-use crate::places::flag_digits;
-use crate::places::pair;
-use crate::places::rate_count;
-use crate::places::record_count;
-use crate::places::record_size;
+ghost use Rattle.rules.specs.Body.{countOf, ratesOf, recordAt, every};
+ghost use Rattle.form.specs.Walk.{shaped, recordsFrom, Whole};
+ghost use Rattle.body.specs.Records.{ratesFit, checksumFits, holds};
+use layout::PLANT;
+use layout::RATE_COUNT;
+use layout::RATES;
+use layout::START;
 use rules::Format;
 use rules::HIGHEST_RATE;
 
@@ -24,45 +18,34 @@ pub enum Stage {
     Plants,
 }
 
-// a modulo m; a where m is 0.
-fn modulo(a: u32, m: u32) -> u32
-    ensures { λ r. ⌜ r ≡ a % m ⌝ }
-{
-    if m == 0 {
-        return a;
-    }
-    a % m
-}
-
-// Whether no rate of the record at the front of `s` is above 100.
-fn rates_hold(format: Format, s: &[u8]) -> bool
-    requires { ⌜ Whole format (now s) ⌝ }
+// Whether no rate of the record at the front of `s`, which has so many, is above 100.
+fn rates_hold(format: Format, rates: usize, s: &[u8]) -> bool
+    requires { ⌜ Whole format (now s) × (rates ≡ ratesOf (now s)) ⌝ }
     ensures { λ r. ⌜ r ≡ ratesFit (recordAt format (now (s .entry))) ⌝ }
 {
-    let end = RATES + rate_count(s) as usize;
+    let end = RATES + rates;
     digits::all_at_most(&s[RATES..end], HIGHEST_RATE)
 }
 
-// 'sum of the rates modulo (month + day of the start), two digits. The flag isn't summed' (01, Names and bodies).
-fn checksum_holds(format: Format, s: &[u8]) -> bool
-    requires { ⌜ Whole format (now s) ⌝ }
+// Whether its checksum is right: 'The flag isn't summed' (01, Names and bodies).
+fn checksum_holds(format: Format, rates: usize, s: &[u8]) -> bool
+    requires { ⌜ Whole format (now s) × (rates ≡ ratesOf (now s)) ⌝ }
     ensures { λ r. ⌜ r ≡ checksumFits (recordAt format (now (s .entry))) ⌝ }
 {
-    let end = RATES + rate_count(s) as usize;
-    let checksum = end + flag_digits(format);
-    let sum = digits::sum(&s[RATES..end]);
-    let divisor = pair(s, MONTH) + pair(s, DAY);
-    pair(s, checksum) == modulo(sum, divisor)
+    let end = RATES + rates;
+    let place = end + layout::flag_digits(format);
+    let sum = layout::checksum(&s[START..RATE_COUNT], &s[RATES..end]);
+    calendar::pair(s, place) == sum
 }
 
-// Whether the record at the front of `s` passes the stage.
-fn record_holds(stage: Stage, format: Format, plant: &[u8], s: &[u8]) -> bool
-    requires { ⌜ Whole format (now s) ⌝ }
+// Whether it passes the stage.
+fn record_holds(stage: Stage, format: Format, plant: &[u8], rates: usize, s: &[u8]) -> bool
+    requires { ⌜ Whole format (now s) × (rates ≡ ratesOf (now s)) ⌝ }
     ensures { λ r. ⌜ r ≡ holds stage (now (plant .entry)) (recordAt format (now (s .entry))) ⌝ }
 {
     match stage {
-        Stage::Rates => rates_hold(format, s),
-        Stage::Checksums => checksum_holds(format, s),
+        Stage::Rates => rates_hold(format, rates, s),
+        Stage::Checksums => checksum_holds(format, rates, s),
         Stage::Plants => digits::same(&s[PLANT..START], plant),
     }
 }
@@ -72,13 +55,15 @@ pub(crate) fn records_hold(stage: Stage, format: Format, plant: &[u8], s: &[u8])
     requires { ⌜ shaped format (countOf format) (now s) ≡ true ⌝ }
     ensures { λ r. ⌜ r ≡ every (holds stage (now (plant .entry))) (recordsFrom format (countOf format) (now (s .entry))) ⌝ }
 {
-    let mut left = record_count(format);
+    let tail = layout::tail_digits(format);
+    let mut left = layout::record_count(format);
     let mut t = s;
     while 0 < left {
-        if !record_holds(stage, format, plant, t) {
+        let rates = layout::rate_count(t) as usize;
+        if !record_holds(stage, format, plant, rates, t) {
             return false;
         }
-        let size = record_size(format, t);
+        let size = RATES + rates + tail;
         t = &t[size..];
         left -= 1;
     }

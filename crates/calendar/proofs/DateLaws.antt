@@ -13,7 +13,7 @@ use Rattle.rules.specs.Digits.{part, value, allAtMost, allDigits, digits}
 use Rattle.rules.specs.Calendar.{firstDay, yearIn, monthIn, dayIn, hourIn, minuteIn, secondIn, monthAt, exists, secondsOf, moment, wholeMinute, halfHour, startSlot, slotOf, monthCount, dayCount, endOfTime, slotLength, slotCount}
 use Rattle.calendar.specs.Moments.{momentOf, monthExists, dayExists, timeExists, Dated, secondAt}
 use Rattle.calendar.specs.declared.dates.Moment.the-variants.{At, Missing}
-use Rattle.calendar.proofs.Tests.{both}
+use Rattle.digits.proofs.Parts.{both}
 use Rattle.calendar.proofs.Laws.{first-day-step, first-day-monotone, first-day-end}
 use Rattle.calendar.proofs.Scan.{four-is}
 
@@ -69,7 +69,7 @@ module _ {m d h i s : ℕ} (w : Dated m d h i s) where
 -- ---- 14 digits
 
 module _ (s : List ℕ) where
-  exists-is : exists s
+  pub exists-is : exists s
       ≡ (monthExists (yearIn s) (monthIn s) && (dayExists (monthAt s) (dayIn s) && timeExists (hourIn s) (minuteIn s) (secondIn s)))
   unfolding exists
   exists-is = simp and-assoc

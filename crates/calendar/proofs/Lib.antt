@@ -3,3 +3,4 @@ pub mod Laws
 pub mod Search
 pub mod Scan
 pub mod DateLaws
+pub mod Begins

@@ -1,20 +1,29 @@
 -- Laws of a list of digits that is read by an index.
 -- Assumes nothing.
-use Prim.Native.Nat.{ℕ, suc, _+_, _*_, _≤_, _<_}
+use Prim.Native.Nat.{ℕ, suc, _+_, _-_, _*_, _≤_, _<_}
 use mathlib.Core.Path.{_≡_, refl, _∙_}
-use mathlib.Core.Bool.{true, false}
-use mathlib.Core.List.{List, _∷_, _++_}
+use mathlib.Core.List.{List, _++_}
 use native.Mathlib.Nat.{zero-add}
 use native.Mathlib.Numerals.{add-one}
 use native.Mathlib.Omega.{arith}
-use borrow.Author.Tests.{le-leb, lt-leb}
 use lib.ListN.{length, getD, set, take, drop, replicate, drop-of-length-le}
-use lib.Seq.{drop-cons, take-all, paste-suc}
+use lib.Seq.{take-all, paste-suc}
 use Rattle.rules.specs.Digits.{part, valueFrom, value}
 use Rattle.rules.specs.Calendar.{wholeMinute}
 use Rattle.digits.proofs.Scan.{at-next}
 
 module _ (s : List ℕ) (i : ℕ) where
+  -- no digit, and one
+  pub pair-none : length s ≤ i → 0 ≡ value (part s i 2)
+  unfolding valueFrom
+  pair-none h = rw (drop-of-length-le s h) refl
+
+  pub pair-one : i < length s → length s - i < 2 → getD s i 0 ≡ value (part s i 2)
+  unfolding valueFrom
+  pair-one h l =
+      let end : length s ≤ i + 1 = omega arith in
+      rw (at-next s i h, drop-of-length-le s end) (omega arith)
+
   -- two digits as a number
   pub pair-is : i + 2 ≤ length s → value (part s i 2) ≡ getD s i 0 * 10 + getD s (i + 1) 0
   unfolding valueFrom

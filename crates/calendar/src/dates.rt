@@ -1,12 +1,12 @@
-// Dates in digits: YYYYMMDDhhmmss as a second, and a start, YYYYMMDDhhmm, as a slot.
+// Dates in digits: YYYYMMDDhhmmss as a second, and a start, YYYYMMDDhhmm, as a slot, or as the month that it begins.
 ghost use mathlib.Core.Path.{_≡_};
 ghost use mathlib.Core.Bool.{_||_};
-ghost use Prim.Native.Nat.{_+_, _≤_};
+ghost use Prim.Native.Nat.{_≤_};
 ghost use lib.Dec.{eqb};
 ghost use lib.ListN.{length};
 ghost use Rattle.rules.specs.Digits.{part, value};
 ghost use Rattle.rules.specs.Calendar.{moment, startSlot, wholeMinute};
-ghost use Rattle.calendar.specs.Moments.{momentOf, monthExists, dayExists, timeExists, Dated, secondAt};
+ghost use Rattle.calendar.specs.Moments.{momentOf, monthBegun, monthExists, dayExists, timeExists, Dated, secondAt};
 use crate::months::FIRST_YEAR;
 use crate::months::MONTHS_OF_YEAR;
 use crate::months::YEARS;
@@ -19,6 +19,12 @@ use rules::DAY_LENGTH;
 pub enum Moment {
     At(u32),
     Missing,
+}
+
+// The month that begins at a start.
+pub enum Begun {
+    Month(u16),
+    Nothing,
 }
 
 // 'a digit is one byte of value 0 to 9' (01, Names and bodies).
@@ -42,13 +48,24 @@ const HOURS_OF_DAY: u32 = 24;
 // 'start minute 00 or 30' (01, Names and bodies).
 const HALF_HOUR: u32 = 30;
 
-// The number of the two digits at place i.
-fn pair(s: &[u8], i: usize) -> u32
-    requires { ⌜ i + 2 ≤ length (now s) ⌝ }
+// 'the start is day 01, 00:00' (01, Names and bodies): the digits of a start from its day on.
+const DAY_PLACE: usize = 6;
+
+const MONTH_BEGINS: [u8; 6] = [0, 1, 0, 0, 0, 0];
+
+// The number of the two digits at place i, or of those that are there.
+pub fn pair(s: &[u8], i: usize) -> u32
     ensures exact { λ r. ⌜ r ≡ value (part (now (s .entry)) i 2) ⌝ }
     ensures bound { λ r. ⌜ r ≤ 2805 ⌝ }
 {
-    (s[i] as u32) * 10 + s[i + 1] as u32
+    if s.len() <= i {
+        return 0;
+    }
+    let first = s[i] as u32;
+    if s.len() - i < 2 {
+        return first;
+    }
+    first * 10 + s[i + 1] as u32
 }
 
 // Whether there is such a month of such a year.
@@ -142,4 +159,20 @@ pub fn start_slot(digits: &[u8]) -> Moment
         return Moment::Missing;
     }
     Moment::At(slot_of(second))
+}
+
+// The month that begins at a date of 12 digits, on day 01 at 00:00; Nothing where `start` is no such date.
+pub fn month_begun(start: &[u8]) -> Begun
+    ensures { λ r. ⌜ r ≡ monthBegun (now (start .entry)) ⌝ }
+{
+    if start.len() != START_DIGITS {
+        return Begun::Nothing;
+    }
+    let year = 100 * pair(start, 0) + pair(start, 2);
+    let month = pair(start, 4);
+    let begins = digits::same(&start[DAY_PLACE..START_DIGITS], &MONTH_BEGINS);
+    if !(digits::few_at_most(start, HIGHEST_DIGIT) & is_month(year, month) & begins) {
+        return Begun::Nothing;
+    }
+    Begun::Month((MONTHS_OF_YEAR * (year - FIRST_YEAR) + (month - 1)) as u16)
 }

@@ -2,7 +2,10 @@
 mod dates;
 mod months;
 
+pub use dates::Begun;
 pub use dates::Moment;
+pub use dates::month_begun;
+pub use dates::pair;
 pub use dates::read_moment;
 pub use dates::start_slot;
 pub use months::days_of_month;

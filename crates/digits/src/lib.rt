@@ -1,10 +1,13 @@
-// Bytes as digits: whether they are some, the number that they stand for, sums and comparisons. Scans keep a flag or the greatest byte, and do not leave early.
+// Bytes as digits: whether they are some, the number that they stand for, sums and comparisons; and bytes put into a buffer. Scans keep a flag or the greatest byte, and do not leave early.
+mod buffer;
+
 ghost use mathlib.Core.Path.{_≡_};
 ghost use Prim.Native.Nat.{_≤_, max};
 ghost use lib.ListN.{length};
 ghost use Rattle.rules.specs.Digits.{allAtMost, allAscii, sameBytes};
 ghost use Rattle.rules.specs.File.{sum};
 ghost use Rattle.digits.specs.Decimal.{decimalOf, ratesSum};
+pub use buffer::put;
 
 // A number of at most 14 digits, or what is none.
 pub enum Decimal {

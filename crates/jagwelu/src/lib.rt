@@ -13,7 +13,7 @@ ghost use Rattle.unit.specs.Calls.{tickOf, lostOf, failureOf, dueOf, ceilingOf,
 ghost use Rattle.taking.specs.Taken.{takeOf, storeAfterTake};
 ghost use Rattle.unit.specs.Request.{requestOf};
 ghost use Rattle.unit.specs.Values.{installedUnit};
-ghost use Rattle.writer.specs.Fields.{fieldsOf};
+ghost use Rattle.plan.specs.Fields.{fieldsOf};
 ghost use Rattle.c_structs.specs.Held.{settingsIn, opened, handed, newly};
 ghost use Rattle.jagwelu.specs.Check.{checkNumber};
 ghost use Rattle.c_structs.specs.Answers.{dueNumbers, ceilingNumbers, commandNumber, blocksNumber, writtenNumbers, fileNumbers, errorNumbers};

@@ -11,11 +11,8 @@ use libc::STDOUT_FILENO;
 // 'A name has 55 ASCII bytes'.
 const NAME_LENGTH: usize = 55;
 
-// The longest body that has the form of one: a record count, and 13 records of 53 digits, 99,999 rates and a checksum.
-const LONGEST_BODY: usize = 6 + 13 * (53 + 99999 + 2);
-
 // As much of the input as is read: a name, byte 0A, the longest body, and a byte that is too much. More would not change the line.
-const ENOUGH: usize = NAME_LENGTH + 1 + LONGEST_BODY + 1;
+const ENOUGH: usize = NAME_LENGTH + 1 + layout::LONGEST_BODY + 1;
 
 // What was read: so many bytes, up to the input's end or as many as there is room for, or up to a read that failed.
 struct Input {

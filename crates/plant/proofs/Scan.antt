@@ -1,17 +1,16 @@
 -- Laws of the plant's loops: what the part from i on gives, at i + 1 and at the end.
 -- Assumes nothing.
 use Prim.Native.Nat.{ℕ, zero, suc, _+_, _*_, _%_, _≤_, _<_}
-use mathlib.Core.Path.{_≡_, _∙_, refl, sym, ap}
+use mathlib.Core.Path.{_≡_, _∙_, refl, ap}
 use mathlib.Core.Logic.{_⊎_, inl, inr}
-use mathlib.Core.Bool.{Bool, true, false, _&&_, and-true, and-assoc, false≢true}
+use mathlib.Core.Bool.{Bool, true, false, _&&_, false≢true}
 use mathlib.Core.List.{List, [], _∷_}
 use native.Mathlib.Numerals.{add-one}
 use native.Mathlib.Omega.{arith}
 use native.Mathlib.Nat.{mul-le-mul-left, le-trans, le-of-suc-le-suc, eq-or-lt-of-le}
 use borrow.Author.Tests.{eqb-true}
-use lib.Dec.{leb, eqb, lit≤}
-use lib.ListN.{length, getD, drop, take, set, drop-of-length-le}
-use lib.Seq.{drop-cons, take-suc, take-suc-set, take-all}
+use lib.Dec.{eqb, lit≤}
+use lib.ListN.{length, getD, drop, drop-of-length-le}
 use Rattle.rules.specs.Store.{allBelow}
 use Rattle.rules.specs.Plant.{weights, weightedSum, allHex, hexByte}
 use Rattle.digits.proofs.Scan.{at-next, all-step, all-end}
@@ -70,13 +69,3 @@ pub weighted-bound : (x k : ℕ) → x < 256 → x * getD weights k 0 ≤ 2295
 weighted-bound x k h =
     let a : x ≤ 255 = omega arith in
     le-trans (mul-le-mul-left x (weight-bound k)) (omega arith)
-
--- ---- a copy: what stands below i is copied
-pub copy-step : (to from : List ℕ) (i : ℕ) → i < length from → length to ≡ length from → take i to ≡ take i from
-    → take (i + 1) (set to i (getD from i 0)) ≡ take (i + 1) from
-copy-step to from i h e t =
-    let h′ : i < length to = omega arith in
-    rw (add-one i, take-suc-set to i (getD from i 0) h′, take-suc from i 0 h, t) refl
-
-pub copy-end : (to from : List ℕ) (i : ℕ) → length from ≤ i → length to ≡ length from → take i to ≡ take i from → to ≡ from
-copy-end to from i h e t = rw (take-all i to (omega arith), take-all i from h) at t

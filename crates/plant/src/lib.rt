@@ -130,18 +130,6 @@ fn narrow(wide: u64) -> u32
     }
 }
 
-// Copies a whole slice.
-fn copy(to: &mut [u8], from: &[u8])
-    requires { ⌜ length (now to) ≡ length (now from) ⌝ }
-    ensures { λ _. ⌜ now (to .exit) ≡ now (from .entry) ⌝ }
-{
-    let mut i = 0;
-    while i < from.len() {
-        to[i] = from[i];
-        i += 1;
-    }
-}
-
 // The lesser of two numbers.
 fn least(a: u64, b: u64) -> u64
     ensures { λ r. ⌜ r ≡ min a b ⌝ }
@@ -197,9 +185,9 @@ fn make(id: &[u8], mac: &[u8], given: GivenSettings) -> Plant
     ensures { λ r. ⌜ r ≡ plantOf (now (id .entry)) (now (mac .entry)) (givenOf given) ⌝ }
 {
     let mut own_id = [0u8; ID_LENGTH];
-    copy(&mut own_id, id);
+    digits::put(&mut own_id, 0, id);
     let mut own_mac = [0u8; MAC_LENGTH];
-    copy(&mut own_mac, mac);
+    digits::put(&mut own_mac, 0, mac);
     Plant {
         id: own_id,
         mac: own_mac,

@@ -1,28 +1,20 @@
 -- Laws of a body that stands: what its tests say, and that it is a body that parses.
 -- Assumes nothing.
-use Prim.Native.Nat.{ℕ, _-_, _≤_}
-use mathlib.Core.Path.{_≡_, _∙_, refl, sym, ap}
-use mathlib.Core.Bool.{Bool, true, false, cond, _&&_, false≢true}
+use Prim.Native.Nat.{ℕ, _-_}
+use mathlib.Core.Path.{_≡_, _∙_, refl}
+use mathlib.Core.Bool.{Bool, true, false, cond, _&&_}
 use mathlib.Core.List.{List}
-use mathlib.Core.Option.{Option, none, some, Option·map}
-use lib.Dec.{leb}
+use mathlib.Core.Option.{none, some, Option·map}
 use lib.ListN.{length, take, drop}
-use borrow.Author.Tests.{leb-true}
-use Rattle.rules.specs.Digits.{part, allDigits}
-use Rattle.rules.specs.Body.{Record, Body, schedule, countOf, parseRecords, parseRest, parseBody, counted, isSchedule}
+use Rattle.rules.specs.Body.{Record, schedule, countOf, parseBody, counted, isSchedule}
 use Rattle.rules.specs.declared.Format.{Format}
-use Rattle.rules.specs.declared.Format.the-variants.{F201, F202, F203, F301}
+use Rattle.digits.proofs.Parts.{both}
 use Rattle.digits.proofs.Scan.{part-rest}
-use Rattle.body.specs.Walk.{shaped, recordsFrom}
-use Rattle.body.proofs.Parts.{both}
-use Rattle.body.proofs.Walk.{parse-is}
+use Rattle.form.specs.Walk.{shaped, recordsFrom}
+use Rattle.form.proofs.Walk.{rest-is}
 use Rattle.records.specs.Standing.{standing, Stands}
 
 module _ (f : Format) (body : List ℕ) where
-  pub count-room : counted f body ≡ true → 6 ≤ length body
-  unfolding counted
-  count-room e = leb-true 6 (length body) (both (leb 6 (length body)) (allDigits (part body 0 6)) (both _ _ e .0) .0)
-
   pub not-counted : counted f body ≡ false → false ≡ standing f body
   not-counted e = rw e refl
 
@@ -37,13 +29,6 @@ module _ (f : Format) (body : List ℕ) where
   -- the records of a body that stands
   abbrev pub recordsAt : List Record
   recordsAt = recordsFrom f (countOf f) (drop 6 body)
-
-rest-is : (f : Format) (s : List ℕ) → isSchedule f ≡ true
-    → parseRest f s ≡ Option·map schedule (cond (shaped f (countOf f) s) (some (recordsFrom f (countOf f) s)) none)
-rest-is F201 s i = ap (Option·map schedule) (parse-is F201 13 s)
-rest-is F202 s i = ap (Option·map schedule) (parse-is F202 1 s)
-rest-is F203 s i = ap (Option·map schedule) (parse-is F203 1 s)
-rest-is F301 s i = absurd (false≢true i)
 
 -- a schedule's body parses where it stands
 pub parse-standing : (f : Format) (body : List ℕ) → isSchedule f ≡ true

@@ -1,10 +1,10 @@
 -- Laws of finding a record: the answer for each test, and that the parts at its places are the fields of the record.
 -- Assumes nothing.
 use Prim.Native.Nat.{ℕ, zero, suc, _+_, _-_, _≤_, _<_}
-use mathlib.Core.Path.{_≡_, _∙_, refl, sym, ap, subst}
+use mathlib.Core.Path.{_≡_, _∙_, refl, sym, ap}
 use mathlib.Core.Bool.{Bool, true, false, cond, _&&_, false≢true}
 use mathlib.Core.List.{List, [], _∷_}
-use mathlib.Core.Option.{Option, none, some}
+use mathlib.Core.Option.{none, some}
 use native.Mathlib.Omega.{arith}
 use lib.Dec.{leb, ltb, eqb}
 use lib.ListN.{length, getD, getElem?, take, drop}
@@ -16,15 +16,13 @@ use Rattle.rules.specs.Table.{need}
 use Rattle.rules.specs.declared.Cause.{Cause}
 use Rattle.rules.specs.declared.Format.{Format}
 use Rattle.rules.specs.declared.Format.the-variants.{F201, F202, F203, F301}
-use Rattle.body.specs.Walk.{recordStart, recordsFrom}
-use Rattle.body.proofs.Parts.{part-to}
-use Rattle.body.proofs.Kept.{records-count}
-use Rattle.body.proofs.Laws.{record-is, rates-within}
-use Rattle.records.specs.Standing.{standing, Stands}
+use Rattle.digits.proofs.Parts.{part-to}
+use Rattle.form.specs.Walk.{recordStart}
+use Rattle.form.proofs.Standing.{records-count, record-is, rates-within}
+use Rattle.records.specs.Standing.{standing}
 use Rattle.records.specs.Locating.{placesOf, placesAt, parses, locate, from, size, Piece}
 use Rattle.records.specs.Reading.{fieldOf, fieldIn, recordsOf, recordIn}
 use Rattle.records.specs.declared.Places.{Places}
-use Rattle.records.specs.declared.Located.{Located}
 use Rattle.records.specs.declared.Located.the-variants.{At, Refused}
 use Rattle.records.specs.declared.Field.{Field}
 use Rattle.records.specs.declared.Field.the-variants.{Schedule, Plant, Start, Rates, Flag, Checksum, Next}

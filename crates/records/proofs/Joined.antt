@@ -1,31 +1,29 @@
 -- Laws of the rates of records end to end, put into a buffer one record after the other.
 -- Assumes nothing.
-use Prim.Native.Nat.{ℕ, zero, suc, _+_, _-_, _*_, _≤_, _<_}
+use Prim.Native.Nat.{ℕ, _+_, _-_, _*_, _≤_, _<_}
 use mathlib.Core.Path.{_≡_, _∙_, refl, sym, ap}
-use mathlib.Core.Bool.{Bool, true, false}
+use mathlib.Core.Bool.{true, false}
 use mathlib.Core.List.{List, [], _∷_, _++_}
-use mathlib.Core.Option.{none, some}
 use native.Mathlib.Omega.{arith}
 use lib.ListN.{length, take, drop, length-append}
-use Rattle.rules.specs.Body.{Record, countOf, tailDigits, ratesOf, sizeOf, recordShape, recordAt, parseBody, isSchedule}
+use Rattle.rules.specs.Body.{Record, countOf, tailDigits, ratesOf, sizeOf, recordAt, isSchedule}
 use Rattle.rules.specs.Lister.{totalRates}
 use Rattle.rules.specs.Writer.{Output, refuse, fitting, writtenOf, bufferAfter}
 use Rattle.rules.specs.declared.Cause.{Cause}
 use Rattle.rules.specs.declared.Written.{Written}
 use Rattle.rules.specs.declared.Format.{Format}
 use Rattle.digits.proofs.Scan.{part-rest}
-use Rattle.body.specs.Walk.{shaped, recordsFrom, Whole}
-use Rattle.body.proofs.Parts.{part-to}
-use Rattle.body.proofs.Walk.{whole-first, within, shaped-first, shaped-rest, records-end, records-step}
-use Rattle.body.proofs.Kept.{rates-total}
+use Rattle.digits.specs.Placed.{placed}
+use Rattle.digits.proofs.Parts.{part-to, part-length}
+use Rattle.digits.proofs.Placing.{placed-none, placed-next, no-room, with-room}
+use Rattle.layout.specs.Records.{countAt}
+use Rattle.form.specs.Walk.{shaped, recordsFrom, Whole}
+use Rattle.form.proofs.Walk.{whole-first, within, rates-here, size-here, shaped-rest, records-end, records-step}
+use Rattle.form.proofs.Standing.{rates-total}
 use Rattle.about_files.specs.Writing.{endToEnd}
-use Rattle.writer.specs.Placed.{Put}
-use Rattle.writer.proofs.Placing.{put-none, next-to, put-same}
-use Rattle.writer.proofs.Outputs.{no-room, with-room}
-use Rattle.records.specs.Standing.{standing, Counting, RatesRoom}
+use Rattle.records.specs.Standing.{standing, RatesRoom}
 use Rattle.records.specs.Reading.{ratesOutput}
 use Rattle.records.proofs.Bodies.{stands-facts, recordsAt, parses-not, parses-as}
-use Rattle.records.proofs.Counts.{counting}
 
 pub joined-length : (rs : List Record) → length (endToEnd rs) ≡ totalRates rs
 unfolding totalRates
@@ -64,25 +62,25 @@ pub record Going (f : Format) (s before out : List ℕ) (left place : ℕ) (t : 
   pub form : shaped f left t ≡ true
   pub same : length out ≡ length before
   pub enough : place + length (endToEnd (recordsFrom f left t)) ≤ length out
-  pub rest : (o : List ℕ) (n : ℕ) → Put out place (endToEnd (recordsFrom f left t)) o n → Put before 0 (endToEnd (recordsFrom f (countOf f) s)) o n
+  pub rest : placed out place (endToEnd (recordsFrom f left t)) ≡ placed before 0 (endToEnd (recordsFrom f (countOf f) s))
 
 pub going-start : (f : Format) (s before : List ℕ) {left : ℕ} → RatesRoom f s (length before) → left ≡ countOf f → Going f s before before left 0 s
-going-start f s before h e = rw e (record { form = h .records; same = refl; enough = omega (arith, h .enough); rest = λ o n p. p })
+going-start f s before h e = rw e (record { form = h .records; same = refl; enough = omega (arith, h .enough); rest = refl })
 
 module _ (f : Format) (s before out : List ℕ) (left place : ℕ) (t : List ℕ) (g : Going f s before out left place t) where
-  pub going-end : left ≤ 0 → Put before 0 (endToEnd (recordsFrom f (countOf f) s)) out place
-  going-end h = g .rest out place (rw (records-end f t left h) (put-none out place))
+  pub going-end : left ≤ 0 → out ≡ placed before 0 (endToEnd (recordsFrom f (countOf f) s))
+  going-end h = sym (placed-none out place) ∙ rw (records-end f t left h) at (g .rest)
 
   module _ (h : 0 < left) where
-    pub here-counting : Counting t
-    here-counting = counting f t (shaped-first f t left h (g .form))
-
     here-whole : Whole f t
     here-whole = whole-first f t left h (g .form)
 
-    module _ (n : ℕ) (n≡ : n ≡ ratesOf t) where
+    module _ (n : ℕ) (c : n ≡ countAt t) where
+      n≡ : n ≡ ratesOf t
+      n≡ = rates-here f t c here-whole
+
       pub rates-inside : 53 + n ≤ length t
-      rates-inside = omega (arith, here-whole .room)
+      rates-inside = omega (arith, here-whole .room, n≡)
 
       -- the rates of the record at the front of t
       abbrev these : List ℕ
@@ -98,22 +96,24 @@ module _ (f : Format) (s before out : List ℕ) (left place : ℕ) (t : List ℕ
           ap endToEnd (records-step f t left h z≡)
           ∙ ap (λ (x : List ℕ). x ++ endToEnd (recordsFrom f (left - 1) (take (length t - z) (drop z t)))) (sym these-are)
 
-      pub rates-room : place + length these ≤ length out
+      these-long : length these ≡ n
+      these-long = ap length (part-to t 53 n) ∙ part-length t 53 n rates-inside
+
+      pub rates-room : place + n ≤ length out
       rates-room =
           let e = ap length (first-split refl) in
-          omega (arith, g .enough, length-append these (endToEnd (recordsFrom f (left - 1) (take (length t - sizeOf f t) (drop (sizeOf f t) t)))))
+          omega (arith, these-long, g .enough, length-append these (endToEnd (recordsFrom f (left - 1) (take (length t - sizeOf f t) (drop (sizeOf f t) t)))))
 
       module _ (tail : ℕ) (tail≡ : tail ≡ tailDigits f) where
         size-is : 53 + n + tail ≡ sizeOf f t
-        unfolding sizeOf
-        size-is = rw (n≡, tail≡) refl
+        size-is = size-here f t c tail≡ here-whole
 
         pub next-inside : 53 + n + tail ≤ length t
         next-inside = within f t here-whole size-is
 
-        pub going-next : {o : List ℕ} {m : ℕ} → length o ≡ length out → Put out place these o m
-            → Going f s before o (left - 1) m (take (length t - (53 + n + tail)) (drop (53 + n + tail) t))
-        going-next {o} {m} len p =
+        pub going-next : {o : List ℕ} → length o ≡ length out → o ≡ placed out place these
+            → Going f s before o (left - 1) (place + n) (take (length t - (53 + n + tail)) (drop (53 + n + tail) t))
+        going-next {o} len q =
             let z = 53 + n + tail in
             let others = endToEnd (recordsFrom f (left - 1) (take (length t - z) (drop z t))) in
             let split = first-split size-is in
@@ -121,8 +121,8 @@ module _ (f : Format) (s before out : List ℕ) (left place : ℕ) (t : List ℕ
             record {
               form = shaped-rest f t left h size-is (g .form);
               same = len ∙ g .same;
-              enough = omega (arith, g .enough, p .ends, length-append these others);
-              rest = λ o′ n′ q. g .rest o′ n′ (put-same (sym split) (next-to p q));
+              enough = omega (arith, these-long, g .enough, length-append these others);
+              rest = placed-next out these others place q (omega (arith, these-long)) ∙ ap (placed out place) (sym split) ∙ g .rest;
             }
 
 -- ---- the rates of a body that stands, into a buffer: x is the bytes of the other fields
@@ -152,6 +152,6 @@ module _ (f : Format) (body before : List ℕ) (i : isSchedule f ≡ true) (t : 
   pub copy-room : length s - x ≤ length before → RatesRoom f s (length before)
   copy-room h = record { records = s-shaped; enough = omega (arith, copied-length) }
 
-  pub copy-done : {after : List ℕ} {n : ℕ} → length s - x ≤ length before → Put before 0 rates after n
+  pub copy-done : {after : List ℕ} → length s - x ≤ length before → after ≡ placed before 0 rates
       → (Written.Length (length s - x) ≡ writtenOf (ratesOutput f body (length before))) × (after ≡ bufferAfter (ratesOutput f body (length before)) before)
   copy-done h p = rw (sym output-is) (with-room before rates copied-length h p)

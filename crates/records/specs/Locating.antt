@@ -6,19 +6,20 @@ use mathlib.Core.List.{List}
 use mathlib.Core.Option.{Option, none, some}
 use lib.Dec.{ltb}
 use lib.ListN.{drop}
-use Rattle.rules.specs.Body.{Body, countOf, ratesOf, isSchedule, parseBody}
+use Rattle.rules.specs.Body.{Body, countOf, flagDigits, nextDigits, ratesOf, isSchedule, parseBody}
 use Rattle.rules.specs.Table.{need}
 use Rattle.rules.specs.declared.Cause.{Cause}
 use Rattle.rules.specs.declared.Format.{Format}
 use Rattle.rules.specs.declared.Format.the-variants.{F201, F202, F203, F301}
-use Rattle.body.specs.Walk.{recordStart}
+use Rattle.layout.specs.Places.{scheduleDigits, plantDigits, startDigits, plantPlace, startPlace, ratesPlace, checksumDigits}
+use Rattle.form.specs.Walk.{recordStart}
 use Rattle.records.specs.declared.Places.{Places}
 use Rattle.records.specs.declared.Located.{Located}
 use Rattle.records.specs.declared.Located.the-variants.{At, Refused}
 use Rattle.records.specs.declared.Field.{Field}
 use Rattle.records.specs.declared.Field.the-variants.{Schedule, Plant, Start, Rates, Flag, Checksum, Next}
 
--- 'for 203 a flag digit', 'for 203 next access': n for 203, else 0
+-- 'for 203 a flag digit', 'for 203 next access': the place n for 203, else 0
 abbrev pub onlyUpdate : Format → ℕ → ℕ
 onlyUpdate F201 n = 0
 onlyUpdate F202 n = 0
@@ -30,13 +31,13 @@ onlyUpdate F301 n = 0
 abbrev pub placesOf : Format → ℕ → ℕ → Places
 placesOf f at n = record {
   schedule = at;
-  plant = at + 10;
-  start = at + 36;
-  rates = at + 53;
+  plant = at + plantPlace;
+  start = at + startPlace;
+  rates = at + ratesPlace;
   count = n;
-  flag = onlyUpdate f (at + 53 + n);
-  checksum = at + 53 + n + onlyUpdate f 1;
-  next = onlyUpdate f (at + 53 + n + 1 + 2);
+  flag = onlyUpdate f (at + ratesPlace + n);
+  checksum = at + ratesPlace + n + flagDigits f;
+  next = onlyUpdate f (at + ratesPlace + n + flagDigits f + checksumDigits);
 }
 
 -- those of record i of a body
@@ -66,13 +67,13 @@ from Checksum p = p .checksum
 from Next p = p .next
 
 abbrev pub size : Field → Format → Places → ℕ
-size Schedule f p = 10
-size Plant f p = 26
-size Start f p = 12
+size Schedule f p = scheduleDigits
+size Plant f p = plantDigits
+size Start f p = startDigits
 size Rates f p = p .count
-size Flag f p = onlyUpdate f 1
-size Checksum f p = 2
-size Next f p = onlyUpdate f 14
+size Flag f p = flagDigits f
+size Checksum f p = checksumDigits
+size Next f p = nextDigits f
 
 pub record Piece (x : Field) (f : Format) (p : Places) (at n : ℕ) : Type 0 where
   pub begins : at ≡ from x p

@@ -8,24 +8,9 @@ ghost use Rattle.rules.specs.Writer.{writtenOf, bufferAfter};
 ghost use Rattle.records.specs.Standing.{standing};
 ghost use Rattle.records.specs.Locating.{locate, Piece};
 ghost use Rattle.records.specs.Reading.{fieldIn, recordIn, ratesOutput};
-use crate::walk::RECORDS;
-use crate::walk::only_update;
 use rules::Cause;
 use rules::Format;
 use rules::Written;
-
-// 'schedule ID 10 digits, plant ID 26, start YYYYMMDDhhmm 12', 'a flag digit', 'checksum 2 digits', 'next access YYYYMMDDhhmmss'.
-const SCHEDULE_DIGITS: usize = 10;
-
-const PLANT_DIGITS: usize = 26;
-
-const START_DIGITS: usize = 12;
-
-const FLAG_DIGITS: usize = 1;
-
-const CHECKSUM_DIGITS: usize = 2;
-
-const NEXT_DIGITS: usize = 14;
 
 // Where in its body the fields of a record begin, and how many rates it has. A 201 or 202 has no flag and no next access: 0.
 pub struct Places {
@@ -65,10 +50,10 @@ struct Part {
 fn stands(format: Format, body: &[u8]) -> bool
     ensures { λ r. ⌜ r ≡ standing format (now (body .entry)) ⌝ }
 {
-    if !body::count_holds(format, body) {
+    if !form::count_holds(format, body) {
         return false;
     }
-    body::records_stand(format, &body[RECORDS..])
+    form::records_stand(format, &body[layout::RECORDS..])
 }
 
 // Where the fields of record `index` stand, the first one being 0. Causes: 6 for an index not below the format's record count,
@@ -76,10 +61,10 @@ fn stands(format: Format, body: &[u8]) -> bool
 pub fn locate(format: Format, body: &[u8], index: usize) -> Located
     ensures { λ r. ⌜ r ≡ locate format (now (body .entry)) index ⌝ }
 {
-    if body::record_count(format) as usize <= index {
+    if layout::record_count(format) as usize <= index {
         return Located::Refused(Cause::Range);
     }
-    if !body::is_schedule(format) {
+    if !layout::is_schedule(format) {
         return Located::Refused(Cause::Name);
     }
     if !stands(format, body) {
@@ -95,15 +80,15 @@ fn part_of(field: Field, format: Format, places: Places) -> Part
     match field {
         Field::Schedule => Part {
             from: places.schedule,
-            size: SCHEDULE_DIGITS,
+            size: layout::SCHEDULE_DIGITS,
         },
         Field::Plant => Part {
             from: places.plant,
-            size: PLANT_DIGITS,
+            size: layout::PLANT_DIGITS,
         },
         Field::Start => Part {
             from: places.start,
-            size: START_DIGITS,
+            size: layout::START_DIGITS,
         },
         Field::Rates => Part {
             from: places.rates,
@@ -111,15 +96,15 @@ fn part_of(field: Field, format: Format, places: Places) -> Part
         },
         Field::Flag => Part {
             from: places.flag,
-            size: only_update(format, FLAG_DIGITS),
+            size: layout::flag_digits(format),
         },
         Field::Checksum => Part {
             from: places.checksum,
-            size: CHECKSUM_DIGITS,
+            size: layout::CHECKSUM_DIGITS,
         },
         Field::Next => Part {
             from: places.next,
-            size: only_update(format, NEXT_DIGITS),
+            size: layout::next_digits(format),
         },
     }
 }
@@ -143,14 +128,14 @@ pub fn copy_rates(format: Format, body: &[u8], out: &mut [u8]) -> Written
     ensures answer { λ r. ⌜ r ≡ writtenOf (ratesOutput format (now (body .entry)) (length (now (out .entry)))) ⌝ }
     ensures buffer { λ _. ⌜ now (out .exit) ≡ bufferAfter (ratesOutput format (now (body .entry)) (length (now (out .entry)))) (now (out .entry)) ⌝ }
 {
-    if !body::is_schedule(format) {
+    if !layout::is_schedule(format) {
         return Written::Refused(Cause::Name);
     }
     if !stands(format, body) {
         return Written::Refused(Cause::Form);
     }
-    let s = &body[RECORDS..];
-    let length = s.len() - body::fixed_bytes(format);
+    let s = &body[layout::RECORDS..];
+    let length = s.len() - layout::fixed_bytes(format);
     if out.len() < length {
         return Written::Refused(Cause::Buffer);
     }

@@ -1,17 +1,15 @@
 -- What a unit may take from a file that it is to take: its records stand in the body's bytes, its segment is a number. Assumes nothing.
-use Prim.Native.Nat.{ℕ, zero, suc, _+_, _-_, _%_, _≤_}
+use Prim.Native.Nat.{ℕ, _+_, _-_, _≤_}
 use mathlib.Core.Path.{_≡_, _∙_, refl, sym, ap, subst}
-use mathlib.Core.Bool.{Bool, true, false, cond, not, _&&_, false≢true}
+use mathlib.Core.Bool.{Bool, true, false, cond, not, _&&_}
 use mathlib.Core.List.{List, [], _∷_}
 use mathlib.Core.Option.{Option, none, some, Option·map}
 use native.Mathlib.Omega.{arith}
-use lib.Dec.{leb, eqb}
 use lib.ListN.{length, take, drop}
-use borrow.Author.Tests.{leb-true}
-use Rattle.rules.specs.Digits.{part, allDigits, digits, value}
+use Rattle.rules.specs.Digits.{digits}
 use Rattle.rules.specs.Calendar.{exists}
-use Rattle.rules.specs.Name.{Name, parseName, lawfulName, segmentFits, segmentDigit}
-use Rattle.rules.specs.Body.{Record, Body, schedule, registration, countOf, parseRest, parseBody, counted, isSchedule}
+use Rattle.rules.specs.Name.{Name, parseName, lawfulName, segmentFits}
+use Rattle.rules.specs.Body.{Record, Body, schedule, countOf, parseBody, counted, isSchedule}
 use Rattle.rules.specs.File.{File, Outcome, refuse, file, idFits, datesHold, ratesHold, checksumsHold, plantsHold, stages, withBody, withName, readFile, isRegistration, takeFile, recordsIn, flagOf}
 use Rattle.rules.specs.Lister.{totalRates, rateCount, recordCount}
 use Rattle.rules.specs.Machine.{takeBy, takeYear, takeUpdate}
@@ -23,13 +21,14 @@ use Rattle.rules.specs.declared.Format.the-variants.{F201, F202, F203, F301}
 use Rattle.digits.proofs.Scan.{part-rest}
 use Rattle.name.proofs.Laws.{segment-digit}
 use Rattle.about_files.proofs.Reading.{taken-exactly, lawful-facts}
-use Rattle.body.specs.Walk.{shaped, recordsFrom}
+use Rattle.form.specs.Walk.{shaped, recordsFrom}
 use Rattle.rules.specs.Reading.{summaryOf, readingOf, firstStart, accessOf}
 use Rattle.rules.specs.declared.Summary.{Summary}
-use Rattle.rules.specs.declared.Reading.{Reading}
 use Rattle.rules.specs.declared.Reading.the-variants.{Read, Refused}
-use Rattle.body.proofs.Parts.{both}
-use Rattle.body.proofs.Walk.{parse-is}
+use Rattle.digits.proofs.Parts.{both}
+use Rattle.form.proofs.Walk.{rest-is}
+use Rattle.form.proofs.Count.{count-room}
+use Rattle.form.proofs.Standing.{records-count}
 use Rattle.about_store.specs.Run.{RunFrom, runStart, runLength}
 use Rattle.about_store.proofs.Laws.{taken-good}
 use Rattle.taking.specs.Taking.{Following, takeSummary}
@@ -94,29 +93,13 @@ record Standing (f : Format) (body : List ℕ) (b : Body) : Type 0 where
   records : recordsIn b ≡ recordsFrom f (recordCount b) (drop 6 body)
   total : rateCount b ≡ totalRates (recordsIn b)
 
-records-length : (f : Format) (k : ℕ) (s : List ℕ) → length (recordsFrom f k s) ≡ k
-unfolding recordsFrom
-records-length f zero s = refl
-records-length f (suc k) s = ap suc (records-length f k _)
-
-rest-is : (f : Format) (s : List ℕ) → isSchedule f ≡ true
-    → parseRest f s ≡ Option·map schedule (cond (shaped f (countOf f) s) (some (recordsFrom f (countOf f) s)) none)
-rest-is F201 s i = ap (Option·map schedule) (parse-is F201 13 s)
-rest-is F202 s i = ap (Option·map schedule) (parse-is F202 1 s)
-rest-is F203 s i = ap (Option·map schedule) (parse-is F203 1 s)
-rest-is F301 s i = absurd (false≢true i)
-
-count-room : (f : Format) (body : List ℕ) → counted f body ≡ true → 6 ≤ length body
-unfolding counted
-count-room f body e = leb-true 6 (length body) (both (leb 6 (length body)) (allDigits (part body 0 6)) (both _ _ e .0) .0)
-
 standing : (f : Format) (body : List ℕ) (b : Body) → isSchedule f ≡ true → parseBody f body ≡ some b → Standing f body b
 unfolding parseBody
 standing f body b i e = go (counted f body) refl (shaped f (countOf f) (drop 6 body)) refl (ap (λ (o : Option Body). cond (counted f body) o none) (sym (rest-is f (drop 6 body) i)) ∙ e)
   where
     here : counted f body ≡ true → shaped f (countOf f) (drop 6 body) ≡ true → (rs : List Record) → rs ≡ recordsFrom f (countOf f) (drop 6 body) → Standing f body (schedule rs)
     here c t rs e =
-        let k : length rs ≡ countOf f = ap (λ (x : List Record). length x) e ∙ records-length f (countOf f) (drop 6 body) in
+        let k : length rs ≡ countOf f = ap (λ (x : List Record). length x) e ∙ records-count f (countOf f) (drop 6 body) in
         record {
           room = count-room f body c;
           form = ap (λ (n : ℕ). shaped f n (drop 6 body)) k ∙ t;

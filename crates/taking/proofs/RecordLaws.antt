@@ -1,25 +1,21 @@
 -- Laws of the walk that puts records: one record on, and what is put of it. Assumes nothing.
 use Prim.Native.Nat.{ℕ, _+_, _-_, _≤_, _<_}
 use mathlib.Core.Path.{_≡_, _∙_, refl, sym, ap, subst}
-use mathlib.Core.List.{List, [], _∷_}
+use mathlib.Core.List.{List}
 use native.Mathlib.Omega.{arith}
 use lib.ListN.{length, take, drop}
 use Rattle.rules.specs.Digits.{part}
 use Rattle.rules.specs.Calendar.{slotCount}
-use Rattle.rules.specs.Body.{Record, tailDigits, ratesOf, sizeOf, recordAt}
+use Rattle.rules.specs.Body.{Record, ratesOf, sizeOf, recordAt}
 use Rattle.rules.specs.File.{startOf}
 use Rattle.rules.specs.declared.Format.{Format}
 use Rattle.schedule.specs.Stored.{Stored, putRun}
 use Rattle.about_store.specs.Run.{GoodRecord, RunFrom, putRecords}
-use Rattle.body.specs.Walk.{Whole, shaped, recordsFrom}
-use Rattle.body.proofs.Parts.{part-to}
-use Rattle.body.proofs.Walk.{records-end, records-step, shaped-rest, whole-first, within}
-use Rattle.body.proofs.Starts.{rates-full}
+use Rattle.digits.proofs.Parts.{part-to}
+use Rattle.form.specs.Walk.{Whole, recordsFrom}
+use Rattle.form.proofs.Walk.{records-end, records-step, shaped-rest, whole-first}
+use Rattle.form.proofs.Standing.{rates-full}
 use Rattle.taking.specs.Taking.{Following}
-
-pub size-is : (f : Format) (t : List ℕ) (n d : ℕ) → n ≡ ratesOf t → d ≡ tailDigits f → 53 + n + d ≡ sizeOf f t
-unfolding sizeOf
-size-is f t n d n≡ d≡ = omega arith
 
 module _ (f : Format) (t : List ℕ) (left slot : ℕ) (g : Following f left slot t) (h : 0 < left) where
   pub whole-here : Whole f t

@@ -11,7 +11,7 @@ use Rattle.rules.specs.File.{File, file, takeFile, recordsIn}
 use Rattle.rules.specs.Machine.{takeBy}
 use Rattle.rules.specs.Store.{storeLength}
 use Rattle.rules.specs.declared.Cause.{Cause}
-use Rattle.body.specs.Walk.{recordsFrom}
+use Rattle.form.specs.Walk.{recordsFrom}
 use Rattle.rules.specs.Reading.{readingOf}
 use Rattle.rules.specs.Table.{firstOf}
 use Rattle.rules.specs.declared.Summary.{Summary}

@@ -8,7 +8,7 @@ use Rattle.rules.specs.Machine.{takeYear, takeUpdate}
 use Rattle.rules.specs.declared.Answer.{Answer}
 use Rattle.rules.specs.declared.Format.{Format}
 use Rattle.rules.specs.declared.Format.the-variants.{F201, F202, F203, F301}
-use Rattle.body.specs.Walk.{shaped, recordsFrom}
+use Rattle.form.specs.Walk.{shaped, recordsFrom}
 use Rattle.rules.specs.declared.Summary.{Summary}
 use Rattle.about_store.specs.Run.{RunFrom}
 use Rattle.pool.specs.declared.Pool.{Pool}

@@ -14,9 +14,6 @@ use unit::Clock;
 use unit::Done;
 use unit::Unit;
 
-// 'A body is a 6-digit record count, then the records'.
-const RECORDS: usize = 6;
-
 // What is due after the file, by its format and the clock.
 fn take_requests(clock: u32, old: Requests, summary: Summary) -> Requests
     ensures { λ r. ⌜ requestsOf r ≡ takeSummary clock (summary .format) summary (requestsOf old) ⌝ }
@@ -82,7 +79,7 @@ pub fn take_file(unit: Unit, name: &[u8], body: &[u8], store: &mut [u8]) -> Done
                 held,
                 unit.floor,
                 summary.start,
-                &body[RECORDS..],
+                &body[layout::RECORDS..],
                 store,
             );
             filed(unit, pool, take_requests(t, old, summary))

@@ -12,10 +12,10 @@ use Rattle.rules.specs.Calendar.{daysOfMonth, firstSlot, slotsOfMonth, slotsOfD
 use Rattle.rules.specs.Body.{encodeRecord, encodeRecords}
 use Rattle.rules.specs.Writer.{Fields, monthRecord, monthRecords}
 use Rattle.calendar.proofs.Laws.{days-range, first-slot-step, first-slot-monotone}
-use Rattle.writer.specs.Fields.{monthFields}
-use Rattle.writer.specs.Placed.{Put}
+use Rattle.plan.specs.Fields.{monthFields}
+use Rattle.digits.specs.Placed.{placed}
 use Rattle.writer.specs.Room.{MonthRoom, MonthsRoom}
-use Rattle.writer.proofs.Placing.{put-none, next-to, put-same}
+use Rattle.digits.proofs.Placing.{placed-none, placed-next}
 use Rattle.writer.proofs.Records.{month-length}
 
 -- of the fields, months take over the schedule and the plant only
@@ -74,19 +74,18 @@ pub record Going (before : List ℕ) (at : ℕ) (schedule plant : List ℕ) (fir
   pub same : length out ≡ length before
   pub full : firstSlot month + length rates ≡ from + firstSlot end
   pub enough : place + (55 * (end - month) + (length rates - from)) ≤ length out
-  pub rest : (o : List ℕ) (n : ℕ) → Put out place (monthsBytes schedule plant (end - month) month (drop from rates)) o n
-      → Put before at (monthsBytes schedule plant (end - first) first rates) o n
+  pub rest : placed out place (monthsBytes schedule plant (end - month) month (drop from rates)) ≡ placed before at (monthsBytes schedule plant (end - first) first rates)
 
 module _ {before : List ℕ} {at : ℕ} {schedule plant : List ℕ} {first end : ℕ} {rates : List ℕ}
     (h : MonthsRoom (length before) at schedule plant first end rates) where
   pub months-start : Going before at schedule plant first end rates before first 0 at
-  months-start = record { order = h .given .order; same = refl; full = omega (arith, h .given .full); enough = omega (arith, h .enough); rest = λ o n p. p }
+  months-start = record { order = h .given .order; same = refl; full = omega (arith, h .given .full); enough = omega (arith, h .enough); rest = refl }
 
   module _ {out : List ℕ} {month from place : ℕ} (g : Going before at schedule plant first end rates out month from place) where
-    pub months-end : end ≤ month → Put before at (monthsBytes schedule plant (end - first) first rates) out place
+    pub months-end : end ≤ month → out ≡ placed before at (monthsBytes schedule plant (end - first) first rates)
     months-end l =
         let e : end - month ≡ 0 = omega arith in
-        g .rest out place (rw (e, months-none schedule plant month (drop from rates)) (put-none out place))
+        sym (placed-none out place) ∙ rw (e, months-none schedule plant month (drop from rates)) at (g .rest)
 
     module _ (days : ℕ) (d : days ≡ daysOfMonth month) (l : month < end) where
       -- the month's rates
@@ -118,9 +117,12 @@ module _ {before : List ℕ} {at : ℕ} {schedule plant : List ℕ} {first end :
             enough = omega (arith, g .enough);
           }
 
-      pub months-step : {o : List ℕ} {n : ℕ} → length o ≡ length out → Put out place (monthBytes schedule plant month these) o n
-          → Going before at schedule plant first end rates o (month + 1) to n
-      months-step {o} {n} len p =
+      pub place-within : place + (55 + slotsOfDay * days) ≤ length out
+      place-within = omega (arith, part-length, month-room .enough)
+
+      pub months-step : {o : List ℕ} → length o ≡ length out → o ≡ placed out place (monthBytes schedule plant month these)
+          → Going before at schedule plant first end rates o (month + 1) to (place + (55 + slotsOfDay * days))
+      months-step {o} len p =
           let w = part-within in
           let pl = part-length in
           let ml = month-length schedule plant these month (h .given .schedule-long) (h .given .plant-long) in
@@ -138,6 +140,9 @@ module _ {before : List ℕ} {at : ℕ} {schedule plant : List ℕ} {first end :
             order = omega arith;
             same = len ∙ g .same;
             full = omega (arith, g .full);
-            enough = omega (arith, g .enough, p .ends);
-            rest = λ o′ n′ q. g .rest o′ n′ (put-same (sym bytes) (next-to p q));
+            enough = omega (arith, g .enough);
+            rest =
+                placed-next out (monthBytes schedule plant month these) (monthsBytes schedule plant k′ (month + 1) (drop to rates)) place p (omega arith)
+                ∙ ap (placed out place) (sym bytes)
+                ∙ g .rest;
           }

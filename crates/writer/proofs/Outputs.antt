@@ -1,31 +1,30 @@
--- Laws of the output: the body of a plan's records, its length, and what the answer and the buffer are with room and without.
+-- Laws of the output: the body of a plan's records, its length, and the output of a plan.
 -- Assumes nothing.
-use Prim.Native.Nat.{ℕ, _+_, _-_, _*_, _≤_, _<_}
+use Prim.Native.Nat.{ℕ, _+_, _-_, _*_}
 use mathlib.Core.Path.{_≡_, _∙_, refl, ap}
 use mathlib.Core.List.{List, _++_, append-nil}
 use native.Mathlib.Omega.{arith}
 use lib.ListN.{length, length-append}
-use borrow.Author.Tests.{le-leb, lt-leb}
 use Rattle.rules.specs.Digits.{decimal}
 use Rattle.rules.specs.Calendar.{firstSlot}
 use Rattle.rules.specs.Body.{schedule, encodeBody, encodeRecord, encodeRecords}
-use Rattle.rules.specs.Writer.{Fields, Output, fitting, writtenOf, bufferAfter, updateRecord, writeBody}
+use Rattle.rules.specs.Writer.{Fields, Output, fitting, updateRecord, writeBody}
 use Rattle.rules.specs.declared.Cause.{Cause}
-use Rattle.rules.specs.declared.Written.{Written}
-use Rattle.writer.specs.Fields.{fieldsOf, monthFields}
+use Rattle.digits.specs.Placed.{placed}
+use Rattle.digits.proofs.Placing.{placed-next}
+use Rattle.plan.specs.Fields.{fieldsOf, monthFields}
 use Rattle.writer.specs.Bodies.{monthsBody, updateBody}
-use Rattle.writer.specs.Placed.{Put}
-use Rattle.writer.specs.Plan.{planOf}
-use Rattle.writer.specs.Room.{MonthsGiven, UpdateGiven}
-use Rattle.writer.specs.declared.plan.Plan.the-variants.{Months, Update, Refused}
-use Rattle.writer.proofs.Placing.{length-decimal, put-first}
+use Rattle.plan.specs.Plan.{planOf}
+use Rattle.plan.specs.Given.{MonthsGiven, UpdateGiven}
+use Rattle.plan.specs.declared.Plan.the-variants.{Months, Update, Refused}
+use Rattle.writer.proofs.Numbers.{length-decimal}
 use Rattle.writer.proofs.Records.{update-length}
 use Rattle.writer.proofs.Months.{monthsBytes, months-length, same-months, count-months}
-use Rattle.writer.proofs.Plans.{output-is}
+use Rattle.plan.proofs.Plans.{output-is}
 
 -- ---- bodies
 
-pub months-body : (ident plant : List ℕ) (k first : ℕ) (rates : List ℕ)
+months-body : (ident plant : List ℕ) (k first : ℕ) (rates : List ℕ)
     → decimal 6 k ++ monthsBytes ident plant k first rates ≡ monthsBody ident plant k first rates
 unfolding encodeBody
 months-body ident plant k first rates = rw (count-months (monthFields plant ident) k first rates) refl
@@ -41,7 +40,7 @@ months-body-length {ident} {plant} {rates} {first} {end} h =
     let e = ap length (months-body ident plant k first rates) in
     omega (arith, length-append (decimal 6 k) (monthsBytes ident plant k first rates))
 
-pub update-body : (w : Fields) → decimal 6 1 ++ encodeRecord (updateRecord w) ≡ updateBody w
+update-body : (w : Fields) → decimal 6 1 ++ encodeRecord (updateRecord w) ≡ updateBody w
 unfolding encodeBody encodeRecords
 update-body w = rw append-nil refl
 
@@ -49,23 +48,21 @@ pub update-body-length : (format : ℕ) {ident plant start next rates : List ℕ
     → 6 + (70 + length rates) ≡ length (updateBody (fieldsOf format plant ident start next rates flag))
 update-body-length format {ident} {plant} {start} {next} {rates} flag h =
     let w = fieldsOf format plant ident start next rates flag in
-    let l = update-length format ident plant start next rates flag (h .schedule-long) (h .plant-long) (h .summed .start-long) (h .next-long) in
+    let l = update-length format ident plant start next rates flag (h .schedule-long) (h .plant-long) (h .start-long) (h .next-long) in
     let d = length-decimal 6 1 in
     let e = ap length (update-body w) in
     omega (arith, length-append (decimal 6 1) (encodeRecord (updateRecord w)))
 
--- ---- the answer and the buffer
+-- the count is put first, and then the records
+count-placed : (l b : List ℕ) (n : ℕ) {a c : List ℕ} → a ≡ placed l 0 (decimal 6 n) → c ≡ placed a 6 b → c ≡ placed l 0 (decimal 6 n ++ b)
+count-placed l b n ea ec = let d = length-decimal 6 n in ec ∙ placed-next l (decimal 6 n) b 0 ea (omega arith)
 
-module _ (before b : List ℕ) {len : ℕ} (l : len ≡ length b) where
-  pub no-room : length before < len
-      → (Written.Refused Cause.Buffer ≡ writtenOf (fitting (length before) b)) × (before ≡ bufferAfter (fitting (length before) b) before)
-  no-room h = let e = lt-leb (length b) (length before) (omega arith) in (rw e refl, rw e refl)
+pub months-placed : (l ident plant : List ℕ) (k first : ℕ) (rates : List ℕ) {a c : List ℕ} → a ≡ placed l 0 (decimal 6 k)
+    → c ≡ placed a 6 (monthsBytes ident plant k first rates) → c ≡ placed l 0 (monthsBody ident plant k first rates)
+months-placed l ident plant k first rates ea ec = count-placed l (monthsBytes ident plant k first rates) k ea ec ∙ ap (placed l 0) (months-body ident plant k first rates)
 
-  pub with-room : {after : List ℕ} {n : ℕ} → len ≤ length before → Put before 0 b after n
-      → (Written.Length len ≡ writtenOf (fitting (length before) b)) × (after ≡ bufferAfter (fitting (length before) b) before)
-  with-room {after} {n} h p =
-      let e = le-leb (length b) (length before) (omega arith) in
-      (rw (e, l) refl, rw e (put-first before b after n (omega arith) p))
+pub update-placed : (l : List ℕ) (w : Fields) {a c : List ℕ} → a ≡ placed l 0 (decimal 6 1) → c ≡ placed a 6 (encodeRecord (updateRecord w)) → c ≡ placed l 0 (updateBody w)
+update-placed l w ea ec = count-placed l (encodeRecord (updateRecord w)) 1 ea ec ∙ ap (placed l 0) (update-body w)
 
 -- ---- the output of a plan
 

@@ -1,23 +1,24 @@
 -- Laws of the records: their bytes from the parts that are put one after the other, and their lengths.
 -- Assumes nothing.
 use Prim.Native.Nat.{ℕ, _+_, _/_, _%_, _≤_}
-use mathlib.Core.Path.{_≡_, _∙_, refl, ap}
+use mathlib.Core.Path.{_≡_, _∙_, refl, sym, ap}
 use mathlib.Core.List.{List, [], _∷_, _++_, append-assoc, append-nil}
 use native.Mathlib.Omega.{arith}
-use lib.ListN.{length, replicate, length-append}
-use borrow.Author.Tests.{le-leb}
-use Rattle.rules.specs.Digits.{valueFrom, decimal}
-use Rattle.rules.specs.Calendar.{monthIn, dayIn}
+use lib.ListN.{length, replicate, set, length-append}
+use Rattle.rules.specs.Digits.{decimal}
 use Rattle.rules.specs.Body.{encodeRecord}
-use Rattle.rules.specs.File.{sum, checksumOf}
+use Rattle.rules.specs.File.{checksumOf}
 use Rattle.rules.specs.Writer.{monthStart, monthRecord, updateRecord}
-use Rattle.digits.specs.Decimal.{ratesSum}
-use Rattle.writer.specs.Fields.{fieldsOf, monthFields}
-use Rattle.writer.specs.Placed.{placed}
-use Rattle.writer.specs.Room.{Summed}
-use Rattle.writer.proofs.Placing.{length-decimal}
+use Rattle.digits.specs.Placed.{placed}
+use Rattle.digits.proofs.Placing.{placed-next, placed-one}
+use Rattle.layout.specs.Records.{checksumFor}
+use Rattle.layout.proofs.Counts.{checksum-is}
+use Rattle.plan.specs.Fields.{fieldsOf, monthFields}
+use Rattle.writer.specs.Bodies.{head}
+use Rattle.writer.specs.Room.{MonthRoom, UpdateRoom}
+use Rattle.writer.proofs.Numbers.{length-decimal}
 
--- ---- a month's start, and the checksum
+-- ---- a month's start
 
 pub start-is : (m : ℕ) (a b c : List ℕ)
     → a ≡ placed (replicate 12 0) 0 (decimal 4 (2000 + m / 12))
@@ -31,31 +32,33 @@ pub start-length : (m : ℕ) → length (monthStart m) ≡ 12
 unfolding decimal
 start-length m = refl
 
--- day 01 is enough for a sum modulo month + day
-pub start-summed : (m : ℕ) (start rates : List ℕ) → start ≡ monthStart m → length rates ≤ 99999 → Summed start rates
-unfolding decimal valueFrom
-start-summed m start rates e few =
-    let one : dayIn (monthStart m) ≡ 1 = refl in
-    record { start-long = rw e refl; dated = rw e (omega arith); few = few }
-
-pub sum-is : (start rates : List ℕ) (s m d : ℕ) → Summed start rates → s ≡ ratesSum rates → m ≡ monthIn start → d ≡ dayIn start
-    → s % (m + d) ≡ checksumOf start rates
-unfolding ratesSum checksumOf
-sum-is start rates s m d h es em ed = rw (es, em, ed, le-leb (length rates) 99999 (h .few)) refl
-
 -- ---- one record
 
-module _ (schedule plant start rates : List ℕ) where
-  -- a record up to and with its rates
-  abbrev pub head : List ℕ
-  head = schedule ++ (plant ++ (start ++ (decimal 5 (length rates) ++ rates)))
-
-  pub head-length : length head ≡ length schedule + length plant + length start + 5 + length rates
+-- a record up to and with its rates, put field by field
+module _ (ident plant start rates : List ℕ) (hs : length ident ≡ 10) (hp : length plant ≡ 26) (ht : length start ≡ 12) where
+  pub head-length : length (head ident plant start rates) ≡ 53 + length rates
   head-length = simp (length-append, length-decimal) (omega arith)
 
-  -- and what follows them
-  head-more : (rest : List ℕ) → head ++ rest ≡ schedule ++ (plant ++ (start ++ (decimal 5 (length rates) ++ (rates ++ rest))))
-  head-more rest = simp append-assoc
+  pub head-placed : (l : List ℕ) (at : ℕ) {a b c d e : List ℕ}
+      → a ≡ placed l at ident
+      → b ≡ placed a (at + 10) plant
+      → c ≡ placed b (at + 36) start
+      → d ≡ placed c (at + 48) (decimal 5 (length rates))
+      → e ≡ placed d (at + 53) rates
+      → e ≡ placed l at (head ident plant start rates)
+  head-placed l at {a} {b} {c} {d} ea eb ec ed ee =
+      let n = decimal 5 (length rates) in
+      let five = length-decimal 5 (length rates) in
+      ee
+      ∙ placed-next c n rates (at + 48) ed (omega arith)
+      ∙ placed-next b start (n ++ rates) (at + 36) ec (omega arith)
+      ∙ placed-next a plant (start ++ (n ++ rates)) (at + 10) eb (omega arith)
+      ∙ placed-next l ident (plant ++ (start ++ (n ++ rates))) at ea (omega arith)
+
+-- and what follows them
+head-more : (ident plant start rates rest : List ℕ)
+    → head ident plant start rates ++ rest ≡ ident ++ (plant ++ (start ++ (decimal 5 (length rates) ++ (rates ++ rest))))
+head-more ident plant start rates rest = simp append-assoc
 
 pub month-bytes : (schedule plant start rates : List ℕ) (m s : ℕ) → start ≡ monthStart m → s ≡ checksumOf start rates
     → head schedule plant start rates ++ decimal 2 s ≡ encodeRecord (monthRecord (monthFields plant schedule) m rates)
@@ -77,7 +80,7 @@ month-length schedule plant rates m hs hp =
     let s = checksumOf start rates in
     let e = month-bytes schedule plant start rates m s refl refl in
     let l = length-append (head schedule plant start rates) (decimal 2 s) in
-    omega (arith, ap length e, l, head-length schedule plant start rates, length-decimal 2 s, start-length m)
+    omega (arith, ap length e, l, head-length schedule plant start rates hs hp (start-length m), length-decimal 2 s)
 
 pub update-length : (format : ℕ) (schedule plant start next rates : List ℕ) (flag : ℕ)
     → length schedule ≡ 10 → length plant ≡ 26 → length start ≡ 12 → length next ≡ 14
@@ -87,4 +90,34 @@ update-length format schedule plant start next rates flag hs hp ht hn =
     let e = update-bytes format schedule plant start next rates flag s refl in
     let l₁ = length-append (head schedule plant start rates) ((flag ∷ []) ++ (decimal 2 s ++ next)) in
     let l₂ = length-append (decimal 2 s) next in
-    omega (arith, ap length e, l₁, l₂, head-length schedule plant start rates, length-decimal 2 s)
+    omega (arith, ap length e, l₁, l₂, head-length schedule plant start rates hs hp ht, length-decimal 2 s)
+
+-- ---- a month's record and an update's, put after their heads: s is the checksum that was computed
+
+pub month-placed : (out ident plant start rates : List ℕ) (at m : ℕ) → MonthRoom (length out) at ident plant rates → start ≡ monthStart m
+    → {s : ℕ} → s ≡ checksumFor start rates → {a b : List ℕ} → a ≡ placed out at (head ident plant start rates)
+    → b ≡ placed a (at + 53 + length rates) (decimal 2 s) → b ≡ placed out at (encodeRecord (monthRecord (monthFields plant ident) m rates))
+month-placed out ident plant start rates at m r e {s} es ea eb =
+    let ht : length start ≡ 12 = ap length e ∙ start-length m in
+    let h = head-length ident plant start rates (r .schedule-long) (r .plant-long) ht in
+    eb
+    ∙ placed-next out (head ident plant start rates) (decimal 2 s) at ea (omega arith)
+    ∙ ap (placed out at) (month-bytes ident plant start rates m s e (es ∙ checksum-is start rates (r .few)))
+
+pub update-placed : (out ident plant start next rates : List ℕ) (at flag : ℕ) → UpdateRoom (length out) at ident plant start next rates
+    → {s : ℕ} → s ≡ checksumFor start rates → {a b c : List ℕ} → a ≡ placed out at (head ident plant start rates)
+    → b ≡ placed (set a (at + 53 + length rates) flag) (at + 53 + length rates + 1) (decimal 2 s)
+    → c ≡ placed b (at + 53 + length rates + 1 + 2) next
+    → c ≡ placed out at (encodeRecord (updateRecord (fieldsOf 203 plant ident start next rates flag)))
+update-placed out ident plant start next rates at flag r {s} es {a} ea eb ec =
+    let g = r .given in
+    let h = head-length ident plant start rates (g .schedule-long) (g .plant-long) (g .start-long) in
+    let few : length rates ≤ 99999 = omega (arith, g .few) in
+    let x = at + 53 + length rates in
+    let two = length-decimal 2 s in
+    let one = placed-one a x flag in
+    ec
+    ∙ placed-next (set a x flag) (decimal 2 s) next (x + 1) eb (omega arith)
+    ∙ placed-next a (flag ∷ []) (decimal 2 s ++ next) x (sym one) refl
+    ∙ placed-next out (head ident plant start rates) ((flag ∷ []) ++ (decimal 2 s ++ next)) at ea (omega arith)
+    ∙ ap (placed out at) (update-bytes 203 ident plant start next rates flag s (es ∙ checksum-is start rates few))

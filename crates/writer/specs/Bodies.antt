@@ -1,9 +1,15 @@
--- The bodies that are written where there is room: one of whole months, and an update's.
+-- What is written: the front of a record, and the bodies where there is room, one of whole months, and an update's.
 use Prim.Native.Nat.{ℕ}
-use mathlib.Core.List.{List, [], _∷_}
+use mathlib.Core.List.{List, [], _∷_, _++_}
+use lib.ListN.{length}
+use Rattle.rules.specs.Digits.{decimal}
 use Rattle.rules.specs.Body.{schedule, encodeBody}
 use Rattle.rules.specs.Writer.{Fields, monthRecords, updateRecord}
-use Rattle.writer.specs.Fields.{monthFields}
+use Rattle.plan.specs.Fields.{monthFields}
+
+-- a record up to and with its rates, as `encodeRecord` begins it
+abbrev pub head : List ℕ → List ℕ → List ℕ → List ℕ → List ℕ
+head ident plant start rates = ident ++ (plant ++ (start ++ (decimal 5 (length rates) ++ rates)))
 
 -- k months from month m on, of rates end to end
 abbrev pub monthsBody : List ℕ → List ℕ → ℕ → ℕ → List ℕ → List ℕ

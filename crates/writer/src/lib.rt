@@ -3,24 +3,15 @@ ghost use mathlib.Core.Path.{_≡_};
 ghost use Prim.Native.Nat.{_-_};
 ghost use lib.ListN.{length};
 ghost use Rattle.rules.specs.Writer.{writtenOf, bufferAfter, writeBody, fitting};
-ghost use Rattle.writer.specs.Fields.{fieldsOf};
+ghost use Rattle.plan.specs.Fields.{fieldsOf};
 ghost use Rattle.writer.specs.Bodies.{monthsBody, updateBody};
-ghost use Rattle.writer.specs.Room.{MonthsGiven, UpdateGiven};
+ghost use Rattle.plan.specs.Given.{MonthsGiven, UpdateGiven};
 use plan::Plan;
 use rules::Cause;
 use rules::Written;
 
-mod plan;
 mod put;
 mod record;
-
-// A body begins with '6-digit record count' (01, Names and bodies).
-const COUNT_DIGITS: usize = 6;
-
-// A record without its rates: a month's, and an update's with its flag and next access.
-const MONTH_LENGTH: usize = 55;
-
-const UPDATE_LENGTH: usize = 70;
 
 // The body of the months from `first` to before `end`, or cause 15.
 fn write_months(
@@ -36,12 +27,12 @@ fn write_months(
     ensures buffer { λ _. ⌜ now (out .exit) ≡ bufferAfter (fitting (length (now (out .entry))) (monthsBody (now (schedule .entry)) (now (plant .entry)) (end - first) first (now (rates .entry)))) (now (out .entry)) ⌝ }
 {
     let count = (end - first) as usize;
-    let length = COUNT_DIGITS + (MONTH_LENGTH * count + rates.len());
+    let length = layout::RECORDS + (record::MONTH_LENGTH * count + rates.len());
     if out.len() < length {
         return Written::Refused(Cause::Buffer);
     }
-    let at = put::put_number(out, 0, COUNT_DIGITS, count as u32);
-    record::put_months(out, at, schedule, plant, first, end, rates);
+    put::put_number(out, 0, layout::RECORDS, count as u32);
+    record::put_months(out, layout::RECORDS, schedule, plant, first, end, rates);
     Written::Length(length)
 }
 
@@ -59,12 +50,21 @@ fn write_update(
     ensures answer { λ r. ⌜ r ≡ writtenOf (fitting (length (now (out .entry))) (updateBody (fieldsOf 203 (now (plant .entry)) (now (schedule .entry)) (now (start .entry)) (now (next .entry)) (now (rates .entry)) flag))) ⌝ }
     ensures buffer { λ _. ⌜ now (out .exit) ≡ bufferAfter (fitting (length (now (out .entry))) (updateBody (fieldsOf 203 (now (plant .entry)) (now (schedule .entry)) (now (start .entry)) (now (next .entry)) (now (rates .entry)) flag))) (now (out .entry)) ⌝ }
 {
-    let length = COUNT_DIGITS + (UPDATE_LENGTH + rates.len());
+    let length = layout::RECORDS + (record::UPDATE_LENGTH + rates.len());
     if out.len() < length {
         return Written::Refused(Cause::Buffer);
     }
-    let at = put::put_number(out, 0, COUNT_DIGITS, 1);
-    record::put_update(out, at, schedule, plant, start, next, rates, flag);
+    put::put_number(out, 0, layout::RECORDS, 1);
+    record::put_update(
+        out,
+        layout::RECORDS,
+        schedule,
+        plant,
+        start,
+        next,
+        rates,
+        flag,
+    );
     Written::Length(length)
 }
 

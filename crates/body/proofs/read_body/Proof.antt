@@ -1,7 +1,8 @@
 -- `body::read_body` meets its contract: the count is judged first, and what follows it by its format. Assumes nothing.
 use mathlib.Core.Path.{_∙_, sym}
 use borrow.Author.Tests.{not-true, not-false}
-use Rattle.body.proofs.Outcomes.{no-count, with-count, with-registration, count-room}
+use Rattle.form.proofs.Count.{count-room}
+use Rattle.body.proofs.Outcomes.{no-count, with-count, with-registration}
 use borrow.Author.Needs.{needs}
 use Rattle.body.proofs.read_body.Statement.{statement}
 use Rattle.body.proofs.read_body.Tie as tie
@@ -13,10 +14,10 @@ returns : tie.Need-returns
 returns c = no-count _ _ _ (sym (not-true _ (c .if1 .taken)) ∙ c .before .count-holds .ensures)
 
 sub-s : tie.Need-sub-s
-sub-s c = count-room _ _ (sym (not-false _ (c .if1 .left)) ∙ c .before .count-holds .ensures)
+sub-s c = count-room _ _ (sym (c .before .count-holds .ensures) ∙ not-false _ (c .if1 .left))
 
 part-s-start : tie.Need-part-s-start
-part-s-start c = count-room _ _ (sym (not-false _ (c .if1 .left)) ∙ c .before .count-holds .ensures)
+part-s-start c = count-room _ _ (sym (c .before .count-holds .ensures) ∙ not-false _ (c .if1 .left))
 
 part-s-end : tie.Need-part-s-end
 part-s-end c = search needs

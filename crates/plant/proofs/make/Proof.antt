@@ -1,6 +1,8 @@
 -- `plant::make` meets its contract. Accepted values have the arrays' lengths, and are kept as they are. Assumes nothing.
 use mathlib.Core.Path.{sym, _∙_}
 use denote.Ref.{now}
+use lib.ListN.{replicate}
+use Rattle.digits.proofs.Placing.{placed-all}
 use Rattle.plant.specs.Plant.{givenOf, plantOf}
 use Rattle.plant.proofs.Laws.{Valid, accepted-facts, in-range-kept, kept-whole}
 use borrow.Author.Needs.{needs}
@@ -11,33 +13,35 @@ use Rattle.plant.proofs.make.Tie as tie
 facts : (c : tie.Start) → Valid (plantOf (now (c .args .id)) (now (c .args .mac)) (givenOf (c .args .given)))
 facts c = accepted-facts _ _ _ (c .pre)
 
-slice-aggregate-copy : tie.Need-slice-aggregate-copy
-slice-aggregate-copy c = search needs
+slice-aggregate-put : tie.Need-slice-aggregate-put
+slice-aggregate-put c = search needs
 
-copy-requires : tie.Need-copy-requires
-copy-requires c κs = sym (facts (c .before .before .before) .id .long)
+put-requires : tie.Need-put-requires
+put-requires c κs = search needs
 
-slice-aggregate-copy-2 : tie.Need-slice-aggregate-copy-2
-slice-aggregate-copy-2 c = search needs
+slice-aggregate-put-2 : tie.Need-slice-aggregate-put-2
+slice-aggregate-put-2 c = search needs
 
-copy-requires-2 : tie.Need-copy-requires-2
-copy-requires-2 c κs = sym (facts (c .before .before .before .before .before .before) .mac .long)
+put-requires-2 : tie.Need-put-requires-2
+put-requires-2 c κs = search needs
 
 narrowed-requires : tie.Need-narrowed-requires
 narrowed-requires c κs = search needs
 
 returns : tie.Need-returns
 returns c =
-    let in-range = facts (c .before .before .before .before .before .before .before .before .before) .settings in
-    rw (c .narrowed .ensures ∙ kept-whole _ (in-range-kept _ in-range)) (cc)
+    let s = c .before .before .before .before .before .before .before .before .before in
+    let v = facts s in
+    rw (c .narrowed .ensures ∙ kept-whole _ (in-range-kept _ (v .settings)))
+    (cc (placed-all (replicate 26 0) (now (s .args .id)) (sym (v .id .long)), placed-all (replicate 12 0) (now (s .args .mac)) (sym (v .mac .long))))
 
 pub make-spec : {M : Type 1} → statement M
 make-spec =
     tie.close
     (tie.spec
-    slice-aggregate-copy
-    copy-requires
-    slice-aggregate-copy-2
-    copy-requires-2
+    slice-aggregate-put
+    put-requires
+    slice-aggregate-put-2
+    put-requires-2
     narrowed-requires
     returns)

@@ -5,7 +5,8 @@ use denote.Ref.{now}
 use borrow.Author.Tests.{not-true, not-false}
 use Rattle.rules.specs.Body.{isSchedule}
 use Rattle.records.specs.Standing.{standing}
-use Rattle.records.proofs.Bodies.{stands-facts, count-room}
+use Rattle.form.proofs.Count.{count-room}
+use Rattle.records.proofs.Bodies.{stands-facts}
 use Rattle.records.proofs.Joined.{output-name, output-form, refused, fixed-inside, copy-short, copy-room, copy-done}
 use borrow.Author.Needs.{needs}
 use Rattle.records.proofs.copy_rates.Statement.{statement}

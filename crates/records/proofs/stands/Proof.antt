@@ -2,7 +2,8 @@
 use mathlib.Core.Path.{_∙_, sym}
 use borrow.Author.Needs.{needs}
 use borrow.Author.Tests.{not-true, not-false}
-use Rattle.records.proofs.Bodies.{count-room, not-counted, is-standing}
+use Rattle.form.proofs.Count.{count-room}
+use Rattle.records.proofs.Bodies.{not-counted, is-standing}
 use Rattle.records.proofs.stands.Statement.{statement}
 use Rattle.records.proofs.stands.Tie as tie
 

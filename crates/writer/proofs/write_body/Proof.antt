@@ -7,10 +7,10 @@ use denote.Ref.{now}
 use lib.ListN.{length}
 use Rattle.rules.specs.Writer.{Fields, Output, writtenOf, bufferAfter}
 use Rattle.rules.specs.declared.Written.{Written}
-use Rattle.writer.specs.Fields.{fieldsOf}
-use Rattle.writer.specs.Plan.{planOf}
-use Rattle.writer.specs.declared.plan.Plan.{Plan}
-use Rattle.writer.proofs.Plans.{plan-months, plan-update, plan-digit}
+use Rattle.plan.specs.Fields.{fieldsOf}
+use Rattle.plan.specs.Plan.{planOf}
+use Rattle.plan.specs.declared.Plan.{Plan}
+use Rattle.plan.proofs.Plans.{plan-months, plan-update, plan-digit}
 use Rattle.writer.proofs.Outputs.{months-output, update-output, refused-output}
 use borrow.Author.Needs.{needs}
 use Rattle.writer.proofs.write_body.Statement.{statement}

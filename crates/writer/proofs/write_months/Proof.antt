@@ -1,10 +1,9 @@
--- `writer::write_months` meets its contract. Assumes nothing.
-use native.Mathlib.Omega.{arith}
-use denote.Ref.{now}
+-- `write_months` meets its contract. Assumes nothing.
 use Prim.Native.Nat.{_-_}
+use denote.Ref.{now}
+use Rattle.digits.proofs.Placing.{no-room, with-room}
 use Rattle.writer.specs.Bodies.{monthsBody}
-use Rattle.writer.proofs.Placing.{next-to, put-same, length-decimal}
-use Rattle.writer.proofs.Outputs.{months-body, months-body-length, no-room, with-room}
+use Rattle.writer.proofs.Outputs.{months-placed, months-body-length}
 use borrow.Author.Needs.{needs}
 use Rattle.writer.proofs.write_months.Statement.{statement}
 use Rattle.writer.proofs.write_months.Tie as tie
@@ -37,20 +36,21 @@ put-number-requires : tie.Need-put-number-requires
 put-number-requires c κs = search needs
 
 put-months-requires : tie.Need-put-months-requires
-put-months-requires c κs =
-    let a = c .before .before .before .before .before .before .before .before .before .before in
-    record { given = a .pre; enough = omega (arith, length-decimal 6 (a .args .end - a .args .first), c .before .before .before .put-number, c .before .before .before .before .before .if1 .left) }
+put-months-requires c κs = search needs
 
 same-length : tie.Need-same-length
 same-length c = search needs
 
 returns-2 : tie.Need-returns-2
 returns-2 c =
-    let a = c .before .before .before .before .before .before .before .before .before .before .before .before .before in
+    let m = c .before .before in
+    let n = m .before .before .before .before in
+    let e = n .before .before in
+    let a = e .before .before .before .before .before in
     let g = a .args in
     let k = g .end - g .first in
-    with-room (now (g .out)) (monthsBody (now (g .schedule)) (now (g .plant)) k (g .first) (now (g .rates))) (months-body-length (a .pre)) (c .before .before .before .before .before .before .before .before .if1 .left)
-    (put-same (months-body (now (g .schedule)) (now (g .plant)) k (g .first) (now (g .rates))) (next-to (c .before .before .before .before .before .before .put-number .ensures) (c .before .before .put-months .ensures)))
+    with-room (now (g .out)) (monthsBody (now (g .schedule)) (now (g .plant)) k (g .first) (now (g .rates))) (months-body-length (a .pre)) (e .if1 .left)
+    (months-placed (now (g .out)) (now (g .schedule)) (now (g .plant)) k (g .first) (now (g .rates)) (n .put-number .ensures) (m .put-months .ensures))
 
 pub write-months-spec : {M : Type 1} → statement M
 write-months-spec =

@@ -1,11 +1,10 @@
--- `writer::write_update` meets its contract. Assumes nothing.
-use native.Mathlib.Omega.{arith}
+-- `write_update` meets its contract. Assumes nothing.
 use denote.Ref.{now}
 use Rattle.rules.specs.Writer.{Fields}
-use Rattle.writer.specs.Fields.{fieldsOf}
+use Rattle.digits.proofs.Placing.{no-room, with-room}
+use Rattle.plan.specs.Fields.{fieldsOf}
 use Rattle.writer.specs.Bodies.{updateBody}
-use Rattle.writer.proofs.Placing.{next-to, put-same, length-decimal}
-use Rattle.writer.proofs.Outputs.{update-body, update-body-length, no-room, with-room}
+use Rattle.writer.proofs.Outputs.{update-placed, update-body-length}
 use borrow.Author.Needs.{needs}
 use Rattle.writer.proofs.write_update.Statement.{statement}
 use Rattle.writer.proofs.write_update.Tie as tie
@@ -30,18 +29,18 @@ put-number-requires : tie.Need-put-number-requires
 put-number-requires c κs = search needs
 
 put-update-requires : tie.Need-put-update-requires
-put-update-requires c κs =
-    let a = c .before .before .before .before .before .before .before .before .before .before .before .before in
-    record { given = a .pre; enough = omega (arith, length-decimal 6 1, c .before .before .before .put-number, c .before .before .before .before .before .if1 .left) }
+put-update-requires c κs = search needs
 
 same-length : tie.Need-same-length
 same-length c = search needs
 
 returns-2 : tie.Need-returns-2
 returns-2 c =
-    let a = c .before .before .before .before .before .before .before .before .before .before .before .before .before .before .before in
-    with-room (now (a .args .out)) (updateBody (fields a)) (update-body-length 203 (a .args .flag) (a .pre)) (c .before .before .before .before .before .before .before .before .if1 .left)
-    (put-same (update-body (fields a)) (next-to (c .before .before .before .before .before .before .put-number .ensures) (c .before .before .put-update .ensures)))
+    let u = c .before .before in
+    let n = u .before .before .before .before in
+    let e = n .before .before in
+    let a = e .before .before .before .before .before .before .before in
+    with-room (now (a .args .out)) (updateBody (fields a)) (update-body-length 203 (a .args .flag) (a .pre)) (e .if1 .left) (update-placed (now (a .args .out)) (fields a) (n .put-number .ensures) (u .put-update .ensures))
 
 pub write-update-spec : {M : Type 1} → statement M
 write-update-spec =

@@ -2,6 +2,7 @@
 use mathlib.Core.Path.{refl}
 use denote.Ref.{now}
 use Rattle.rules.specs.Body.{recordAt}
+use Rattle.form.proofs.Walk.{rates-here}
 use Rattle.body.proofs.Kept.{flag-is}
 use borrow.Author.Needs.{needs}
 use Rattle.body.proofs.accepted.flag_at.Statement.{statement}
@@ -26,7 +27,12 @@ enum-told-3 : tie.Need-enum-told-3
 enum-told-3 c = search needs
 
 shared-slice-read-result : tie.Need-shared-slice-read-result
-shared-slice-read-result c = search needs
+shared-slice-read-result c =
+    let n = c .before .before .before in
+    let a = n .before .before in
+    let e = rates-here _ _ (n .rate-count .ensures .0) (a .pre) in
+    let room = a .pre .room in
+    search needs
 
 enum-told-4 : tie.Need-enum-told-4
 enum-told-4 c = search needs
@@ -42,7 +48,7 @@ returns-2 c = rw (c .enum-told2 .given .1) refl
 returns-3 : tie.Need-returns-3
 returns-3 c =
     let n = c .before .before .before in
-    rw (c .before .enum-told3 .given .1) (flag-is (now (n .before .before .args .s)) _ (n .rate-count .ensures .0))
+    rw (c .before .enum-told3 .given .1) (flag-is (now (n .before .before .args .s)) _ (rates-here _ _ (n .rate-count .ensures .0) (n .before .before .pre)))
 
 returns-4 : tie.Need-returns-4
 unfolding recordAt

@@ -1,6 +1,7 @@
 -- `accepted::next_at` meets its contract, by the two answers of the calendar. Assumes nothing.
 use mathlib.Core.Path.{_∙_, sym}
 use denote.Ref.{now}
+use Rattle.form.proofs.Walk.{rates-here}
 use Rattle.body.proofs.Kept.{next-at-some, next-at-none}
 use borrow.Author.Needs.{needs}
 use Rattle.body.proofs.accepted.next_at.Statement.{statement}
@@ -31,7 +32,9 @@ part-read-moment-start : tie.Need-part-read-moment-start
 part-read-moment-start c = search needs
 
 part-read-moment-end : tie.Need-part-read-moment-end
-part-read-moment-end c = search needs
+part-read-moment-end c =
+    let e = rates-here _ _ (c .rate-count .ensures .0) (c .before .before .pre) in
+    search needs
 
 read-moment-requires : tie.Need-read-moment-requires
 read-moment-requires c κs = search needs
@@ -46,13 +49,13 @@ returns : tie.Need-returns
 returns c =
     let q = c .before .before .before in
     let n = q .before .before in
-    next-at-some (now (n .before .before .args .s)) _ (n .rate-count .ensures .0) _ (sym (c .before .second .given .1) ∙ q .read-moment .ensures)
+    next-at-some (now (n .before .before .args .s)) _ (rates-here _ _ (n .rate-count .ensures .0) (n .before .before .pre)) _ (sym (c .before .second .given .1) ∙ q .read-moment .ensures)
 
 returns-2 : tie.Need-returns-2
 returns-2 c =
     let q = c .before .before in
     let n = q .before .before in
-    next-at-none (now (n .before .before .args .s)) _ (n .rate-count .ensures .0) (sym (c .enum-told .given .1) ∙ q .read-moment .ensures)
+    next-at-none (now (n .before .before .args .s)) _ (rates-here _ _ (n .rate-count .ensures .0) (n .before .before .pre)) (sym (c .enum-told .given .1) ∙ q .read-moment .ensures)
 
 pub next-at-spec : {M : Type 1} → statement M
 next-at-spec =

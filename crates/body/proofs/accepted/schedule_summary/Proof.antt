@@ -1,6 +1,6 @@
 -- `accepted::schedule_summary` meets its contract: each field is that of `summaryOf`. Assumes nothing.
 use native.Mathlib.Omega.{arith}
-use Rattle.body.proofs.Walk.{whole-start}
+use Rattle.form.proofs.Walk.{whole-start}
 use Rattle.body.proofs.Kept.{rates-room, summary-is}
 use borrow.Author.Needs.{needs}
 use Rattle.body.proofs.accepted.schedule_summary.Statement.{statement}

@@ -1,7 +1,6 @@
 -- `date_stage::dates_hold` meets its contract, format by format. Assumes nothing.
-use native.Mathlib.Omega.{arith}
-use Rattle.body.proofs.Walk.{whole-start}
-use Rattle.body.proofs.Starts.{start-month-is, dates-201, dates-202, dates-203}
+use Rattle.form.proofs.Walk.{whole-start}
+use Rattle.body.proofs.Starts.{dates-201, dates-202, dates-203}
 use borrow.Author.Needs.{needs}
 use Rattle.body.proofs.date_stage.dates_hold.Statement.{statement}
 use Rattle.body.proofs.date_stage.dates_hold.Tie as tie
@@ -9,20 +8,8 @@ use Rattle.body.proofs.date_stage.dates_hold.Tie as tie
 enum-told : tie.Need-enum-told
 enum-told c = search needs
 
-sub-start-month : tie.Need-sub-start-month
-sub-start-month c = search needs
-
-part-start-month-start : tie.Need-part-start-month-start
-part-start-month-start c = search needs
-
-part-start-month-end : tie.Need-part-start-month-end
-part-start-month-end c = omega (arith, whole-start _ _ (c .before .before .before .pre) .room)
-
-start-month-requires : tie.Need-start-month-requires
-start-month-requires c κs = search needs
-
-months-hold-requires : tie.Need-months-hold-requires
-months-hold-requires c κs = search needs
+rising-months-hold-requires : tie.Need-rising-months-hold-requires
+rising-months-hold-requires c κs = search needs
 
 enum-told-2 : tie.Need-enum-told-2
 enum-told-2 c = search needs
@@ -30,8 +17,8 @@ enum-told-2 c = search needs
 segment-month-requires : tie.Need-segment-month-requires
 segment-month-requires c κs = search needs
 
-months-hold-requires-2 : tie.Need-months-hold-requires-2
-months-hold-requires-2 c κs = search needs
+months-hold-requires : tie.Need-months-hold-requires
+months-hold-requires c κs = search needs
 
 enum-told-3 : tie.Need-enum-told-3
 enum-told-3 c = search needs
@@ -43,16 +30,12 @@ enum-told-4 : tie.Need-enum-told-4
 enum-told-4 c = search needs
 
 returns : tie.Need-returns
-returns c =
-    let m = c .before in
-    let e = m .before .before in
-    let w = whole-start _ _ (e .before .before .before .pre) in
-    dates-201 _ _ _ (e .enum-told .given .1) _ (start-month-is _ _ w (m .start-month .ensures .0)) (c .months-hold .ensures)
+returns c = dates-201 _ _ _ (c .before .enum-told .given .1) (c .rising-months-hold .ensures)
 
 returns-2 : tie.Need-returns-2
 returns-2 c =
     let m = c .before in
-    dates-202 _ _ _ (m .before .enum-told2 .given .1) _ (m .segment-month .ensures .0) (c .months-hold2 .ensures)
+    dates-202 _ _ _ (m .before .enum-told2 .given .1) _ (m .segment-month .ensures .0) (c .months-hold .ensures)
 
 returns-3 : tie.Need-returns-3
 returns-3 c = dates-203 _ _ _ (c .before .enum-told3 .given .1) (c .update-dates-hold .ensures)
@@ -65,14 +48,10 @@ dates-hold-spec =
     tie.close
     (tie.spec
     enum-told
-    sub-start-month
-    part-start-month-start
-    part-start-month-end
-    start-month-requires
-    months-hold-requires
+    rising-months-hold-requires
     enum-told-2
     segment-month-requires
-    months-hold-requires-2
+    months-hold-requires
     enum-told-3
     update-dates-hold-requires
     enum-told-4

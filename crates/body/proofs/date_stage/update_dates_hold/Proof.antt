@@ -1,4 +1,5 @@
 -- `date_stage::update_dates_hold` meets its contract: start, rate count and next access are the record's. Assumes nothing.
+use Rattle.form.proofs.Walk.{rates-here}
 use Rattle.body.proofs.Starts.{update-holds}
 use borrow.Author.Needs.{needs}
 use Rattle.body.proofs.date_stage.update_dates_hold.Statement.{statement}
@@ -38,7 +39,10 @@ part-is-update-start-2 : tie.Need-part-is-update-start-2
 part-is-update-start-2 c = search needs
 
 part-is-update-end-2 : tie.Need-part-is-update-end-2
-part-is-update-end-2 c = search needs
+part-is-update-end-2 c =
+    let n = c .before in
+    let e = rates-here _ _ (n .rate-count .ensures .0) (n .before .before .pre) in
+    search needs
 
 is-update-requires : tie.Need-is-update-requires
 is-update-requires c κs = search needs
@@ -46,7 +50,8 @@ is-update-requires c κs = search needs
 returns : tie.Need-returns
 returns c =
     let n = c .before .before .before in
-    update-holds _ (n .before .before .pre) _ (n .rate-count .ensures .0) (c .is-update .ensures)
+    let w = n .before .before .pre in
+    update-holds _ w _ (rates-here _ _ (n .rate-count .ensures .0) w) (c .is-update .ensures)
 
 pub update-dates-hold-spec : {M : Type 1} → statement M
 update-dates-hold-spec =

@@ -13,16 +13,11 @@ part-is-whole-month-start c = search needs
 part-is-whole-month-end : tie.Need-part-is-whole-month-end
 part-is-whole-month-end c = search needs
 
-rate-count-requires : tie.Need-rate-count-requires
-rate-count-requires c κs = search needs
-
 is-whole-month-requires : tie.Need-is-whole-month-requires
 is-whole-month-requires c κs = search needs
 
 returns : tie.Need-returns
-returns c =
-    let n = c .before in
-    month-holds _ _ (n .before .before .before .pre) _ _ (n .rate-count .ensures .0) (c .is-whole-month .ensures)
+returns c = let a = c .before .before .before in month-holds _ _ (a .pre .0) _ _ (a .pre .1) (c .is-whole-month .ensures)
 
 pub whole-month-spec : {M : Type 1} → statement M
 whole-month-spec =
@@ -31,6 +26,5 @@ whole-month-spec =
     sub-is-whole-month
     part-is-whole-month-start
     part-is-whole-month-end
-    rate-count-requires
     is-whole-month-requires
     returns)

@@ -5,12 +5,6 @@ use borrow.Author.Needs.{needs}
 use Rattle.body.proofs.stages.rates_hold.Statement.{statement}
 use Rattle.body.proofs.stages.rates_hold.Tie as tie
 
-rate-count-requires : tie.Need-rate-count-requires
-rate-count-requires c κs = search needs
-
-cast-end : tie.Need-cast-end
-cast-end c = search needs
-
 add-end : tie.Need-add-end
 add-end c = search needs
 
@@ -28,16 +22,13 @@ all-at-most-requires c κs = search needs
 
 returns : tie.Need-returns
 returns c =
-    let n = c .before .before in
-    let a = n .before .before in
-    rates-fit (a .args .format) (now (a .args .s)) _ (n .rate-count .ensures .0) (c .all-at-most .ensures)
+    let a = c .before .before .before in
+    rates-fit (a .args .format) (now (a .args .s)) _ (a .pre .1) (c .all-at-most .ensures)
 
 pub rates-hold-spec : {M : Type 1} → statement M
 rates-hold-spec =
     tie.close
     (tie.spec
-    rate-count-requires
-    cast-end
     add-end
     sub-all-at-most
     part-all-at-most-start

@@ -1,8 +1,7 @@
 -- `copying::put_rates` meets its contract. The invariant: the rates that are left, put at the place, give the whole. Assumes nothing.
 use borrow.Author.Needs.{needs}
-use borrow.Author.Needs.{needs}
 use native.Mathlib.Omega.{arith}
-use Rattle.records.proofs.Joined.{Going, going-start, going-end, here-counting, rates-inside, rates-room, next-inside, going-next}
+use Rattle.records.proofs.Joined.{Going, going-start, going-end, rates-inside, rates-room, next-inside, going-next}
 use Rattle.records.proofs.copying.put_rates.Statement.{statement}
 use Rattle.records.proofs.copying.put_rates.Tie as tie
 
@@ -19,44 +18,53 @@ loop-holds : tie.Need-loop-holds Inv-loop μ-loop
 loop-holds c = going-start _ _ _ (c .before .before .before .pre) (c .record-count .ensures)
 
 rate-count-requires : tie.Need-rate-count-requires Inv-loop μ-loop
-rate-count-requires c κs = here-counting _ _ _ _ _ _ _ (c .before .loop .inv) (c .loop-test .taken)
+rate-count-requires c κs = search needs
+
+cast-count : tie.Need-cast-count Inv-loop μ-loop
+cast-count c = search needs
 
 add-end : tie.Need-add-end Inv-loop μ-loop
-add-end c = omega (arith, c .rate-count .ensures .1)
+add-end c = search needs
 
 sub-put : tie.Need-sub-put Inv-loop μ-loop
-sub-put c = omega arith
+sub-put c = search needs
 
 part-put-start : tie.Need-part-put-start Inv-loop μ-loop
-part-put-start c = omega arith
+part-put-start c = search needs
 
 part-put-end : tie.Need-part-put-end Inv-loop μ-loop
 part-put-end c =
-    let i = c .before .before in
-    rates-inside _ _ _ _ _ _ _ (i .before .loop .inv) (i .loop-test .taken) _ (c .before .rate-count .ensures .0)
+    let r = c .before in
+    rates-inside _ _ _ _ _ _ _ (r .before .before .loop .inv) (r .before .loop-test .taken) _ (r .rate-count .ensures .0)
 
 put-requires : tie.Need-put-requires Inv-loop μ-loop
-put-requires c κs =
-    let i = c .before .before .before in
-    rates-room _ _ _ _ _ _ _ (i .before .loop .inv) (i .loop-test .taken) _ (c .before .before .rate-count .ensures .0)
+put-requires c κs = search needs
+
+-- where the rates were counted
+abbrev counted : tie.After-slice-known2 Inv-loop μ-loop → tie.After-rate-count Inv-loop μ-loop
+counted c = c .before .before .before .before .before
+
+add-place : tie.Need-add-place Inv-loop μ-loop
+add-place c =
+    let r = counted c in
+    let l = r .before .before in
+    omega (arith, rates-room _ _ _ _ _ _ _ (l .loop .inv) (r .before .loop-test .taken) _ (r .rate-count .ensures .0), l .loop .inv .same, l .before .before .before .before .good)
 
 tail-digits-requires : tie.Need-tail-digits-requires Inv-loop μ-loop
 tail-digits-requires c κs = search needs
 
 add-next : tie.Need-add-next Inv-loop μ-loop
-add-next c = omega (arith, c .before .before .before .before .before .before .rate-count .ensures .1, c .tail-digits .ensures .1)
+add-next c = search needs
 
 sub-t : tie.Need-sub-t Inv-loop μ-loop
 sub-t c =
-    let k = c .before .before .before .before .before .before in
-    let i = k .before in
-    next-inside _ _ _ _ _ _ _ (i .before .loop .inv) (i .loop-test .taken) _ (k .rate-count .ensures .0) _ (c .tail-digits .ensures .0)
+    let r = counted (c .before) in
+    next-inside _ _ _ _ _ _ _ (r .before .before .loop .inv) (r .before .loop-test .taken) _ (r .rate-count .ensures .0) _ (c .tail-digits .ensures .0)
 
 part-t-start : tie.Need-part-t-start Inv-loop μ-loop
 part-t-start c =
-    let k = c .before .before .before .before .before .before in
-    let i = k .before in
-    next-inside _ _ _ _ _ _ _ (i .before .loop .inv) (i .loop-test .taken) _ (k .rate-count .ensures .0) _ (c .tail-digits .ensures .0)
+    let r = counted (c .before) in
+    next-inside _ _ _ _ _ _ _ (r .before .before .loop .inv) (r .before .loop-test .taken) _ (r .rate-count .ensures .0) _ (c .tail-digits .ensures .0)
 
 part-t-end : tie.Need-part-t-end Inv-loop μ-loop
 part-t-end c = search needs
@@ -70,10 +78,9 @@ loop-less c = search needs
 loop-again : tie.Need-loop-again Inv-loop μ-loop
 loop-again c =
     let d = c .before in
-    let k = d .before .before .before .before .before .before in
-    let i = k .before in
-    let p = d .before .before .before .put in
-    going-next _ _ _ _ _ _ _ (i .before .loop .inv) (i .loop-test .taken) _ (k .rate-count .ensures .0) _ (d .tail-digits .ensures .0) (p .kept .0) (p .ensures)
+    let p = d .before .before .before in
+    let r = counted (d .before) in
+    going-next _ _ _ _ _ _ _ (r .before .before .loop .inv) (r .before .loop-test .taken) _ (r .rate-count .ensures .0) _ (d .tail-digits .ensures .0) (p .put .kept .0) (p .put .ensures)
 
 same-length : tie.Need-same-length Inv-loop μ-loop
 same-length c = c .before .loop .inv .same
@@ -90,11 +97,13 @@ put-rates-spec =
     record-count-requires
     loop-holds
     rate-count-requires
+    cast-count
     add-end
     sub-put
     part-put-start
     part-put-end
     put-requires
+    add-place
     tail-digits-requires
     add-next
     sub-t

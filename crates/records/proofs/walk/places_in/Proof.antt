@@ -3,8 +3,8 @@ use borrow.Author.Needs.{needs}
 use Prim.Native.Nat.{_≤_, _-_}
 use mathlib.Core.Path.{_≡_}
 use native.Mathlib.Omega.{arith}
-use Rattle.body.specs.Walk.{recordStart}
-use Rattle.records.proofs.Walking.{first-place, place-inside, place-counting, place-end, place-next, place-rates, places-here}
+use Rattle.form.specs.Walk.{recordStart}
+use Rattle.records.proofs.Walking.{first-place, place-inside, place-end, place-next, place-rates, places-here}
 use Rattle.records.proofs.walk.places_in.Statement.{statement}
 use Rattle.records.proofs.walk.places_in.Tie as tie
 
@@ -33,10 +33,7 @@ part-record-size-end : tie.Need-part-record-size-end Inv-loop μ-loop
 part-record-size-end c = search needs
 
 record-size-requires : tie.Need-record-size-requires Inv-loop μ-loop
-record-size-requires c κs =
-    let l = c .before .before .loop in
-    let a = c .before .before .before .before in
-    place-counting _ _ (a .pre .0) _ _ (l .inv .1) (omega arith)
+record-size-requires c κs = search needs
 
 add-at : tie.Need-add-at Inv-loop μ-loop
 add-at c =
@@ -72,10 +69,10 @@ part-rate-count-end : tie.Need-part-rate-count-end Inv-loop μ-loop
 part-rate-count-end c = search needs
 
 rate-count-requires : tie.Need-rate-count-requires Inv-loop μ-loop
-rate-count-requires c κs =
-    let l = c .before .before .loop in
-    let a = c .before .before .before .before in
-    place-counting _ _ (a .pre .0) _ _ (l .inv .1) (omega arith)
+rate-count-requires c κs = search needs
+
+cast-n : tie.Need-cast-n Inv-loop μ-loop
+cast-n c = search needs
 
 places-of-requires : tie.Need-places-of-requires Inv-loop μ-loop
 places-of-requires c κs =
@@ -110,5 +107,6 @@ places-in-spec =
     part-rate-count-start
     part-rate-count-end
     rate-count-requires
+    cast-n
     places-of-requires
     returns)

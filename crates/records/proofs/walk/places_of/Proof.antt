@@ -1,6 +1,5 @@
 -- `walk::places_of` meets its contract. Assumes nothing.
-use native.Mathlib.Omega.{arith}
-use Rattle.records.proofs.Walking.{digit-most, places-are}
+use Rattle.records.proofs.Walking.{places-are}
 use borrow.Author.Needs.{needs}
 use Rattle.records.proofs.walk.places_of.Statement.{statement}
 use Rattle.records.proofs.walk.places_of.Tie as tie
@@ -11,8 +10,11 @@ add-flag c = search needs
 add-flag-2 : tie.Need-add-flag-2
 add-flag-2 c = search needs
 
-only-update-requires : tie.Need-only-update-requires
-only-update-requires c κs = search needs
+flag-digits-requires : tie.Need-flag-digits-requires
+flag-digits-requires c κs = search needs
+
+add-checksum : tie.Need-add-checksum
+add-checksum c = search needs
 
 add-t6 : tie.Need-add-t6
 add-t6 c = search needs
@@ -23,23 +25,19 @@ add-t7 c = search needs
 add-t8 : tie.Need-add-t8
 add-t8 c = search needs
 
-only-update-requires-2 : tie.Need-only-update-requires-2
-only-update-requires-2 c κs = search needs
-
-add-t10 : tie.Need-add-t10
-add-t10 c = omega (arith, digit-most (c .before .before .args .format) (c .before .only-update .ensures), c .before .before .pre)
+only-update-requires : tie.Need-only-update-requires
+only-update-requires c κs = search needs
 
 add-only-update : tie.Need-add-only-update
 add-only-update c = search needs
 
-add-only-update-2 : tie.Need-add-only-update-2
-add-only-update-2 c = search needs
-
-only-update-requires-3 : tie.Need-only-update-requires-3
-only-update-requires-3 c κs = search needs
+only-update-requires-2 : tie.Need-only-update-requires-2
+only-update-requires-2 c κs = search needs
 
 returns : tie.Need-returns
-returns c = places-are (c .before .before .before .args .format) _ _ (c .before .before .only-update .ensures) (c .before .only-update2 .ensures) (c .only-update3 .ensures)
+returns c =
+    let d = c .before .before in
+    places-are (d .before .args .format) _ _ (d .flag-digits .ensures .0) (c .before .only-update .ensures) (c .only-update2 .ensures)
 
 pub places-of-spec : {M : Type 1} → statement M
 places-of-spec =
@@ -47,13 +45,12 @@ places-of-spec =
     (tie.spec
     add-flag
     add-flag-2
-    only-update-requires
+    flag-digits-requires
+    add-checksum
     add-t6
     add-t7
     add-t8
-    only-update-requires-2
-    add-t10
+    only-update-requires
     add-only-update
-    add-only-update-2
-    only-update-requires-3
+    only-update-requires-2
     returns)

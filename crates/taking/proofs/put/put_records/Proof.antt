@@ -7,11 +7,11 @@ use denote.Ref.{now}
 use lib.ListN.{length}
 use Rattle.schedule.specs.Rates.{storedOf}
 use Rattle.about_store.specs.Run.{putRecords}
-use Rattle.rules.specs.Body.{sizeOf}
-use Rattle.body.specs.Walk.{Whole, recordsFrom}
-use Rattle.body.proofs.Walk.{within}
+use Rattle.rules.specs.Body.{ratesOf, sizeOf}
+use Rattle.form.specs.Walk.{Whole, recordsFrom}
+use Rattle.form.proofs.Walk.{within, rates-here, size-here}
 use Rattle.taking.specs.Taking.{Following}
-use Rattle.taking.proofs.RecordLaws.{size-is, whole-here, in-time, next-following, put-next, put-end}
+use Rattle.taking.proofs.RecordLaws.{whole-here, in-time, next-following, put-next, put-end}
 use Rattle.taking.proofs.put.put_records.Statement.{statement}
 use Rattle.taking.proofs.put.put_records.Tie as tie
 
@@ -32,7 +32,11 @@ whole : (c : tie.In-loop Inv-loop μ-loop) → Whole (c .before .before .before 
 whole c = whole-here _ _ _ _ (c .before .loop .inv .0) (c .loop-test .taken)
 
 rate-count-requires : tie.Need-rate-count-requires Inv-loop μ-loop
-rate-count-requires c κs = omega (arith, whole c .room)
+rate-count-requires c κs = tt
+
+-- its rates
+rates : (c : tie.After-rate-count Inv-loop μ-loop) → c .rate-count .result ≡ ratesOf (now (c .before .before .loop .t))
+rates c = rates-here _ _ (c .rate-count .ensures .0) (whole (c .before))
 
 cast-end : tie.Need-cast-end Inv-loop μ-loop
 cast-end c = omega (arith, c .rate-count .ensures .1)
@@ -47,7 +51,7 @@ part-put-run-start : tie.Need-part-put-run-start Inv-loop μ-loop
 part-put-run-start c = omega arith
 
 part-put-run-end : tie.Need-part-put-run-end Inv-loop μ-loop
-part-put-run-end c = let n = c .rate-count .ensures .0 in omega (arith, whole (c .before) .room)
+part-put-run-end c = omega (arith, rates c, whole (c .before) .room)
 
 put-run-requires : tie.Need-put-run-requires Inv-loop μ-loop
 put-run-requires c κs = tt
@@ -56,7 +60,7 @@ add-slot : tie.Need-add-slot Inv-loop μ-loop
 add-slot c =
     let k = c .before .before .before .before .before in
     let i = k .before in
-    let n = k .rate-count .ensures .0 in
+    let n = rates k in
     omega (arith, in-time _ _ _ _ (i .before .loop .inv .0) (i .loop-test .taken))
 
 tail-digits-requires : tie.Need-tail-digits-requires Inv-loop μ-loop
@@ -67,7 +71,9 @@ add-next c = omega (arith, c .before .before .before .before .before .before .ra
 
 -- where the next record begins
 size : (c : tie.After-tail-digits Inv-loop μ-loop) → 53 + c .before .before .before .before .before .before .rate-count .result + c .tail-digits .result ≡ sizeOf (c .before .before .before .before .before .before .before .before .before .before .before .args .format) (now (c .before .before .before .before .before .before .before .before .loop .t))
-size c = size-is _ _ _ _ (c .before .before .before .before .before .before .rate-count .ensures .0) (c .tail-digits .ensures .0)
+size c =
+    let k = c .before .before .before .before .before .before in
+    size-here _ _ (k .rate-count .ensures .0) (c .tail-digits .ensures .0) (whole (k .before))
 
 sub-t : tie.Need-sub-t Inv-loop μ-loop
 sub-t c = within _ _ (whole (c .before .before .before .before .before .before .before)) (size c)
@@ -91,10 +97,10 @@ loop-again c =
     let i = k .before in
     let l = i .before .loop in
     let p = d .before .before .before .put-run in (
-      next-following _ _ _ _ (l .inv .0) (i .loop-test .taken) _ _ (k .rate-count .ensures .0) (size d),
+      next-following _ _ _ _ (l .inv .0) (i .loop-test .taken) _ _ (rates k) (size d),
       p .kept .1 .1 .1 .1 .0 ∙ l .inv .1,
       l .inv .2
-          ∙ put-next _ _ _ _ (l .inv .0) (i .loop-test .taken) _ _ _ (storedOf (l .pool) (l .store)) (storedOf (p .result) (p .last .1 .1 .1 .1 .0)) (k .rate-count .ensures .0) (size d) (p .ensures .0) (p .ensures .1),
+          ∙ put-next _ _ _ _ (l .inv .0) (i .loop-test .taken) _ _ _ (storedOf (l .pool) (l .store)) (storedOf (p .result) (p .last .1 .1 .1 .1 .0)) (rates k) (size d) (p .ensures .0) (p .ensures .1),
     )
 
 same-length : tie.Need-same-length Inv-loop μ-loop

@@ -1,24 +1,24 @@
--- `writer::put::put_number` meets its contract. The loop's invariant: the digits of what is left, put before i, give the whole number's.
+-- `put::put_number` meets its contract. The loop's invariant: the digits of what is left, put before i, give the whole number's.
 -- Assumes nothing.
 use Prim.Native.Nat.{_≤_, _-_, _+_}
 use mathlib.Core.Path.{_≡_, _∙_, refl, sym}
 use native.Mathlib.Omega.{arith}
 use lib.ListN.{length, length-set}
 use Rattle.rules.specs.Digits.{decimal}
-use Rattle.writer.specs.Placed.{placed}
-use Rattle.writer.proofs.Placing.{digit-step, digits-end, length-decimal}
+use Rattle.digits.specs.Placed.{placed}
+use Rattle.writer.proofs.Numbers.{digit-step, digits-end}
 use Rattle.writer.proofs.put.put_number.Statement.{statement}
 use Rattle.writer.proofs.put.put_number.Tie as tie
 
 abbrev Inv-loop : tie.InvT-loop
-Inv-loop out₀ at width number end left₀ i₀ out left i =
-    (at ≤ i) × (i ≤ end) × (length out ≡ length out₀) × (placed out₀ at (decimal width number) ≡ placed out at (decimal (i - at) left))
+Inv-loop out₀ at width number left₀ i₀ out left i =
+    (at ≤ i) × (i ≤ at + width) × (length out ≡ length out₀) × (placed out₀ at (decimal width number) ≡ placed out at (decimal (i - at) left))
 
 abbrev μ-loop : tie.MeasureT-loop
-μ-loop out₀ at width number end left₀ i₀ out left i = i
+μ-loop out₀ at width number left₀ i₀ out left i = i
 
-add-end : tie.Need-add-end Inv-loop μ-loop
-add-end c = omega (arith, c .pre, c .good)
+add-i : tie.Need-add-i Inv-loop μ-loop
+add-i c = omega (arith, c .pre, c .good)
 
 loop-holds : tie.Need-loop-holds Inv-loop μ-loop
 loop-holds c =
@@ -51,10 +51,7 @@ returns : tie.Need-returns Inv-loop μ-loop
 returns c =
     let l = c .before .loop in
     let a = c .before .before .args in
-    record {
-      holds = sym (l .inv .3 ∙ digits-end (l .out) (a .at) (l .i) (l .left) (c .loop-test .left));
-      ends = rw length-decimal refl;
-    }
+    sym (l .inv .3 ∙ digits-end (l .out) (a .at) (l .i) (l .left) (c .loop-test .left))
 
 pub put-number-spec : {M : Type 1} → statement M
 put-number-spec =
@@ -62,7 +59,7 @@ put-number-spec =
     (tie.spec
     Inv-loop
     μ-loop
-    add-end
+    add-i
     loop-holds
     sub-i
     cast-out

@@ -1,4 +1,4 @@
--- `writer::record::month_start` meets its contract. Assumes nothing.
+-- `record::month_start` meets its contract. Assumes nothing.
 use Rattle.writer.proofs.Records.{start-is}
 use borrow.Author.Needs.{needs}
 use Rattle.writer.proofs.record.month_start.Statement.{statement}
@@ -30,7 +30,7 @@ put-number-requires-3 c κs = search needs
 
 returns : tie.Need-returns
 returns c =
-    start-is (c .before .before .before .before .before .before .before .before .before .args .month) (c .before .before .before .before .before .before .before .put-number .last .0) (c .before .before .before .before .put-number2 .last .0) _ (c .before .before .before .before .before .before .before .put-number .ensures .holds) (c .before .before .before .before .put-number2 .ensures .holds) (c .before .put-number3 .ensures .holds)
+    start-is (c .before .before .before .before .before .before .before .before .before .args .month) (c .before .before .before .before .before .before .before .put-number .last .0) (c .before .before .before .before .put-number2 .last .0) _ (c .before .before .before .before .before .before .before .put-number .ensures) (c .before .before .before .before .put-number2 .ensures) (c .before .put-number3 .ensures)
 
 pub month-start-spec : {M : Type 1} → statement M
 month-start-spec =

@@ -1,11 +1,11 @@
--- `writer::record::put_months` meets its contract. Assumes nothing.
+-- `record::put_months` meets its contract. The invariant: the months that are left, put at the place, give the whole. Assumes nothing.
 use Prim.Native.Nat.{_-_}
 use native.Mathlib.Omega.{arith}
 use borrow.Author.Needs.{needs}
 use lib.ListN.{length}
 use Rattle.calendar.proofs.Laws.{days-range}
 use Rattle.writer.specs.Room.{MonthsRoom}
-use Rattle.writer.proofs.Months.{Going, months-start, months-end, part-within, month-room, months-step}
+use Rattle.writer.proofs.Months.{Going, months-start, months-end, part-within, month-room, place-within, months-step}
 use Rattle.writer.proofs.record.put_months.Statement.{statement}
 use Rattle.writer.proofs.record.put_months.Tie as tie
 
@@ -22,11 +22,11 @@ loop-holds c = (c .before .before .before .before .pre, months-start (c .before 
 days-of-month-requires : tie.Need-days-of-month-requires Inv-loop μ-loop
 days-of-month-requires c κs = search needs
 
-cast-to : tie.Need-cast-to Inv-loop μ-loop
-cast-to c = omega (arith, c .days-of-month .ensures, days-range (c .before .before .loop .month))
+cast-slots : tie.Need-cast-slots Inv-loop μ-loop
+cast-slots c = omega (arith, c .days-of-month .ensures, days-range (c .before .before .loop .month))
 
-mul-to : tie.Need-mul-to Inv-loop μ-loop
-mul-to c = omega (arith, c .days-of-month .ensures, days-range (c .before .before .loop .month))
+mul-slots : tie.Need-mul-slots Inv-loop μ-loop
+mul-slots c = omega (arith, c .days-of-month .ensures, days-range (c .before .before .loop .month))
 
 add-to : tie.Need-add-to Inv-loop μ-loop
 add-to c =
@@ -49,18 +49,34 @@ put-month-requires c κs =
     let l = c .before .before .before .before .loop in
     month-room (l .inv .0) (l .inv .1) _ (c .before .before .days-of-month .ensures) (c .before .before .before .loop-test .taken)
 
+-- where the month's days were counted
+abbrev counted : tie.After-slice-known2 Inv-loop μ-loop → tie.After-days-of-month Inv-loop μ-loop
+counted c = c .before .before .before .before .before
+
+add-place : tie.Need-add-place Inv-loop μ-loop
+add-place c = omega (arith, counted c .days-of-month .ensures, days-range (counted c .before .before .loop .month))
+
+add-place-2 : tie.Need-add-place-2 Inv-loop μ-loop
+add-place-2 c =
+    let d = counted c in
+    let l = d .before .before .loop in
+    let g = l .inv .1 in
+    omega (arith, place-within (l .inv .0) g _ (d .days-of-month .ensures) (d .before .loop-test .taken), g .same, d .before .before .before .before .before .before .before .good)
+
 add-month : tie.Need-add-month Inv-loop μ-loop
 add-month c =
-    let l = c .before .before .before .before .before .before .before .loop in
-    omega (arith, l .inv .0 .given .last, c .before .before .before .before .before .before .loop-test .taken)
+    let d = counted c in
+    omega (arith, d .before .before .loop .inv .0 .given .last, d .before .loop-test .taken)
 
 loop-less : tie.Need-loop-less Inv-loop μ-loop
-loop-less c = omega (arith, c .before .before .before .before .before .before .loop-test .taken)
+loop-less c = omega (arith, counted c .before .loop-test .taken)
 
 loop-again : tie.Need-loop-again Inv-loop μ-loop
 loop-again c =
-    let l = c .before .before .before .before .before .before .before .loop in
-    (l .inv .0, months-step (l .inv .0) (l .inv .1) _ (c .before .before .before .before .before .days-of-month .ensures) (c .before .before .before .before .before .before .loop-test .taken) (c .before .before .put-month .kept .0) (c .before .before .put-month .ensures))
+    let p = c .before .before in
+    let d = counted c in
+    let l = d .before .before .loop in
+    (l .inv .0, months-step (l .inv .0) (l .inv .1) _ (d .days-of-month .ensures) (d .before .loop-test .taken) (p .put-month .kept .0) (p .put-month .ensures))
 
 same-length : tie.Need-same-length Inv-loop μ-loop
 same-length c = c .before .loop .inv .1 .same
@@ -78,13 +94,15 @@ put-months-spec =
     μ-loop
     loop-holds
     days-of-month-requires
-    cast-to
-    mul-to
+    cast-slots
+    mul-slots
     add-to
     sub-put-month
     part-put-month-start
     part-put-month-end
     put-month-requires
+    add-place
+    add-place-2
     add-month
     loop-less
     loop-again

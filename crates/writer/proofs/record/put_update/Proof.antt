@@ -1,30 +1,12 @@
--- `writer::record::put_update` meets its contract. Assumes nothing.
-use Prim.Native.Nat.{_+_}
-use mathlib.Core.Path.{_≡_}
+-- `record::put_update` meets its contract. Assumes nothing.
+use mathlib.Core.Path.{_∙_}
 use native.Mathlib.Omega.{arith}
 use denote.Ref.{now}
-use lib.ListN.{length}
-use Rattle.writer.proofs.Placing.{next-to, put-same, length-decimal}
-use Rattle.writer.proofs.Records.{head, head-length, update-bytes}
+use lib.ListN.{length-set}
+use Rattle.writer.proofs.Records.{update-placed}
 use borrow.Author.Needs.{needs}
 use Rattle.writer.proofs.record.put_update.Statement.{statement}
 use Rattle.writer.proofs.record.put_update.Tie as tie
-
--- the places before: the head, and the flag
-abbrev start : tie.After-put-head → tie.Start
-start c = c .before .before .before .before .before .before .before .before .before
-
-abbrev headed : tie.After-put-byte → tie.After-put-head
-headed c = c .before .before .before .before
-
-abbrev flagged : tie.After-put-number → tie.After-put-byte
-flagged c = c .before .before .before .before
-
-head-long : (c : tie.After-put-head)
-    → let a = start c .args in
-    length (head (now (a .schedule)) (now (a .plant)) (now (a .start)) (now (a .rates)))
-    ≡ length (now (a .schedule)) + length (now (a .plant)) + length (now (a .start)) + 5 + length (now (a .rates))
-head-long c = let a = start c .args in head-length (now (a .schedule)) (now (a .plant)) (now (a .start)) (now (a .rates))
 
 checksum-requires : tie.Need-checksum-requires
 checksum-requires c κs = search needs
@@ -32,34 +14,43 @@ checksum-requires c κs = search needs
 put-head-requires : tie.Need-put-head-requires
 put-head-requires c κs = search needs
 
-put-byte-requires : tie.Need-put-byte-requires
-put-byte-requires c κs = let h = c .before .before .before in omega (arith, head-long h, h .put-head, start h .pre)
+add-at-flag : tie.Need-add-at-flag
+add-at-flag c = search needs
+
+add-at-flag-2 : tie.Need-add-at-flag-2
+add-at-flag-2 c = search needs
+
+slice-write-out : tie.Need-slice-write-out
+slice-write-out c = search needs
+
+add-at-sum : tie.Need-add-at-sum
+add-at-sum c = search needs
 
 put-number-requires : tie.Need-put-number-requires
-put-number-requires c κs =
-    let b = c .before .before .before in
-    let h = headed b in
-    omega (arith, head-long h, b .put-byte, h .put-head, start h .pre)
+put-number-requires c κs = simp length-set (omega arith)
+
+add-put : tie.Need-add-put
+add-put c = search needs
 
 put-requires : tie.Need-put-requires
-put-requires c κs =
-    let n = c .before .before .before in
-    let b = flagged n in
-    let h = headed b in
-    omega (arith, head-long h, length-decimal 2 (h .before .before .checksum .result), n .put-number, b .put-byte, h .put-head, start h .pre)
+put-requires c κs = search needs
 
 same-length : tie.Need-same-length
-same-length c = search needs
+same-length c =
+    let p = c .before .before in
+    let n = p .before .before .before .before in
+    let h = n .before .before .before .before in
+    p .put .kept .0 ∙ n .put-number .kept .0 ∙ simp length-set (h .put-head .kept .0)
 
 returns : tie.Need-returns
 returns c =
-    let n = c .before .before .before .before .before .before in
-    let b = flagged n in
-    let h = headed b in
-    let a = start h .args in
-    let sum = h .before .before .checksum in
-    put-same (update-bytes 203 (now (a .schedule)) (now (a .plant)) (now (a .start)) (now (a .next)) (now (a .rates)) (a .flag) (sum .result) (sum .ensures))
-    (next-to (h .put-head .ensures) (next-to (b .put-byte .ensures) (next-to (n .put-number .ensures) (c .before .before .put .ensures))))
+    let p = c .before .before in
+    let n = p .before .before .before .before in
+    let h = n .before .before .before .before in
+    let k = h .before .before in
+    let s = k .before .before .before .before .before .before .before in
+    let a = s .args in
+    update-placed (now (a .out)) (now (a .schedule)) (now (a .plant)) (now (a .start)) (now (a .next)) (now (a .rates)) (a .at) (a .flag) (s .pre) (k .checksum .ensures) (h .put-head .ensures) (n .put-number .ensures) (p .put .ensures)
 
 pub put-update-spec : {M : Type 1} → statement M
 put-update-spec =
@@ -67,8 +58,12 @@ put-update-spec =
     (tie.spec
     checksum-requires
     put-head-requires
-    put-byte-requires
+    add-at-flag
+    add-at-flag-2
+    slice-write-out
+    add-at-sum
     put-number-requires
+    add-put
     put-requires
     same-length
     returns)
