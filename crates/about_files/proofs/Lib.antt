@@ -1,4 +1,3 @@
-pub mod Booleans
 pub mod Causes
 pub mod Table
 pub mod Numerals

@@ -1,4 +1,4 @@
-pub mod Bools
+pub mod Ranges
 pub mod Counts
 pub mod Bytes
 pub mod Given
