@@ -3,7 +3,6 @@ use Prim.Native.Nat.{ℕ, _-_, _<_}
 use mathlib.Core.Path.{_≡_, refl, sym, ap, _∙_}
 use mathlib.Core.Bool.{Bool, true, false}
 use mathlib.Core.List.{List}
-use mathlib.Core.Option.{some}
 use native.Mathlib.Omega.{arith}
 use lib.Dec.{ltb}
 use borrow.Author.Tests.{ltb-true, ltb-false}
@@ -14,7 +13,7 @@ use Rattle.rules.specs.Store.{blockCount, soundClock}
 use Rattle.rules.specs.Causes.{accepted, refused, numberOf}
 use Rattle.rules.specs.Machine.{fileTaken, takeBy, countBelow}
 use Rattle.rules.specs.declared.Cause.{Cause}
-use Rattle.about_files.proofs.Reading.{taken-exactly}
+use Rattle.about_files.proofs.Accepted.{taken}
 use Rattle.polling.specs.Requests.{requestsOf}
 use Rattle.schedule.specs.Stored.{Stored}
 use Rattle.about_store.specs.Run.{RunFrom, runStart, putRecords}
@@ -33,7 +32,7 @@ use Rattle.unit.specs.declared.Clock.{Clock}
 use Rattle.unit.specs.declared.Clock.the-variants.{Unset, At}
 use Rattle.about_calls.proofs.UnitLaws as unit
 use Rattle.about_calls.proofs.Asks.{asks-facts, facts-asks}
-use Rattle.about_calls.proofs.Taking.{lawful-facts, file-asks}
+use Rattle.about_calls.proofs.Taking.{file-asks}
 use Rattle.about_alike.proofs.Outcomes.{Beside, Good, unitOf, made, made-sound, made-full, made-lent, Outcome, same-state}
 
 clock-low : (c : Clock) → soundClock (clockOf c) ≡ true → clockTime c < endOfTime
@@ -72,7 +71,7 @@ module _ (r : Beside) (v : View) (good : Good r) (plain : Plain v) (name body : 
     beside-good = record {
       plant = good .plant;
       requests = facts-asks _ _
-          (file-asks _ (clockTime (r .clock)) (clock-low (r .clock) (good .clock)) f (requestsOf (r .requests)) (lawful-facts (some (r .plant .id)) f (taken-exactly (r .plant .id) name body f .0 read .0 .fields))
+          (file-asks _ (clockTime (r .clock)) (clock-low (r .clock) (good .clock)) body f (requestsOf (r .requests)) (taken (r .plant .id) name body f read)
           (asks-facts _ (requestsOf (r .requests)) (good .requests)));
       clock = good .clock;
       command = good .command;

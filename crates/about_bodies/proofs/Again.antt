@@ -2,57 +2,33 @@
 -- Assumes nothing.
 use Prim.Native.Nat.{ℕ, suc, _≤_, _<_}
 use mathlib.Core.Path.{_≡_, _∙_, refl, sym, ap, subst}
-use mathlib.Core.Bool.{true, false, false≢true}
+use mathlib.Core.Bool.{true}
 use mathlib.Core.List.{List, [], _∷_}
 use mathlib.Core.Option.{Option, none, some}
 use native.Mathlib.Omega.{arith}
 use lib.ListN.{length, getElem?}
 use Rattle.rules.specs.Digits.{sameBytes}
 use Rattle.rules.specs.Name.{formatNumber}
-use Rattle.rules.specs.Body.{Record, Body, schedule, registration, countOf, parseBody, every, isSchedule, formOfBody}
-use Rattle.rules.specs.File.{File, Outcome, refuse, file, readFile, recordsIn, flagOf}
+use Rattle.rules.specs.Body.{Record, schedule, countOf, parseBody, every, isSchedule}
+use Rattle.rules.specs.File.{File, file, readFile, recordsIn, flagOf}
 use Rattle.rules.specs.Lister.{recordCount, rateCount}
 use Rattle.rules.specs.Writer.{Fields, bytes, writtenOf, writeBody}
 use Rattle.rules.specs.declared.Format.{Format}
-use Rattle.rules.specs.declared.Format.the-variants.{F201, F202, F203, F301}
 use Rattle.rules.specs.declared.Written.{Written}
-use Rattle.rules.specs.Reading.{summaryOf, readingOf}
+use Rattle.rules.specs.Reading.{summaryOf}
 use Rattle.rules.specs.declared.Summary.{Summary}
-use Rattle.rules.specs.declared.Reading.the-variants.{Read}
 use Rattle.laws.proofs.Tests.{join}
 use Rattle.laws.proofs.Bytes.{equal-same}
 use Rattle.about_files.specs.Writing.{endToEnd, sharedSchedule, fieldsOf as fieldsIn}
-use Rattle.about_files.proofs.Body.{schedule-facts}
 use Rattle.about_files.proofs.Rewritten.{read-written, read-written-with-plant}
+use Rattle.about_files.proofs.Accepted.{Taken, schedule-read, accepted, file-read}
 use Rattle.plan.specs.Fields.{fieldsOf}
 use Rattle.records.specs.Reading.{fieldIn, recordIn, ratesOutput}
 use Rattle.records.specs.declared.Field.the-variants.{Schedule, Plant, Start, Next}
 use Rattle.records.proofs.Joined.{joined-length}
 use Rattle.about_bodies.specs.Written.{Holds}
 use Rattle.about_bodies.specs.Again.{anId, copied, fieldsAgain, Shared, BodyAgain}
-use Rattle.about_bodies.proofs.Records.{parsed}
 use Rattle.about_bodies.proofs.Written.{holds-bytes, first-bytes, rates-output}
-
--- ---- what reading answered
-
-pub record FileRead (o : Outcome) (x : Summary) : Type 0 where
-  pub the-file : File
-  pub is : o ≡ file the-file
-  pub summary : x ≡ summaryOf the-file
-
-pub file-read : (o : Outcome) (x : Summary) → readingOf o ≡ Read x → FileRead o x
-unfolding readingOf
-file-read (refuse c) x e = let z : _≡_ {A = ℕ} 0 1 = cc in absurd (omega arith)
-file-read (file f) x e = record { the-file = f; is = refl; summary = cc }
-
--- a schedule's body is records
-records-of : (f : Format) (b : Body) → isSchedule f ≡ true → formOfBody f b ≡ true → b ≡ schedule (recordsIn b)
-unfolding formOfBody
-records-of f (schedule rs) i e = refl
-records-of F201 (registration plant result) i e = absurd (false≢true e)
-records-of F202 (registration plant result) i e = absurd (false≢true e)
-records-of F203 (registration plant result) i e = absurd (false≢true e)
-records-of F301 (registration plant result) i e = absurd (false≢true i)
 
 -- ---- the records share a schedule ID
 
@@ -83,24 +59,24 @@ module _ (plant : Option (List ℕ)) (name body space out : List ℕ) (f : File)
   abbrev rs : List Record
   rs = recordsIn (f .body)
 
-  body-is : f .body ≡ schedule rs
-  body-is = records-of fmt (f .body) i (parsed plant name body f e .1)
+  the-file : Taken body f
+  the-file = schedule-read body f i (accepted plant name body f e)
 
   parses : parseBody fmt body ≡ some (schedule rs)
-  parses = parsed plant name body f e .0 ∙ ap some body-is
+  parses = the-file .parses ∙ ap some (the-file .is-schedule)
 
   pub count-is : length rs ≡ countOf fmt
-  count-is = schedule-facts fmt rs (ap (formOfBody fmt) (sym body-is) ∙ parsed plant name body f e .1) .1
+  count-is = the-file .records .count
 
   pub record-count : recordCount (f .body) ≡ countOf fmt
-  record-count = ap recordCount body-is ∙ count-is
+  record-count = ap recordCount (the-file .is-schedule) ∙ count-is
 
   pub record-is : (k : ℕ) → recordIn fmt body k ≡ getElem? rs k
   unfolding recordIn
   record-is k = rw parses refl
 
   rates-count : rateCount (f .body) ≡ length (endToEnd rs)
-  rates-count = ap rateCount body-is ∙ sym (joined-length rs)
+  rates-count = ap rateCount (the-file .is-schedule) ∙ sym (joined-length rs)
 
   shared-is : Shared fmt body → sharedSchedule rs ≡ true
   shared-is s = shares rs (λ k l. ap (fieldIn Schedule) (sym (record-is k)) ∙ s k (let c = count-is in omega arith) ∙ ap (fieldIn Schedule) (record-is 0))
@@ -109,8 +85,8 @@ module _ (plant : Option (List ℕ)) (name body space out : List ℕ) (f : File)
   written id s h = go plant e id
     where
       go : (o : Option (List ℕ)) → readFile o name body ≡ file f → anId o ≡ true → writeBody (fieldsIn fmt rs) (length out) ≡ bytes body
-      go none q k = read-written name body f rs (length out) q body-is (shared-is s) h
-      go (some p) q k = read-written-with-plant p name body f rs (length out) k q body-is (shared-is s) h
+      go none q k = read-written name body f rs (length out) q (the-file .is-schedule) (shared-is s) h
+      go (some p) q k = read-written-with-plant p name body f rs (length out) k q (the-file .is-schedule) (shared-is s) h
 
   module _ (x : Summary) (x≡ : x ≡ summaryOf f) (room : x .rates ≤ length space) where
     format-is : x .format ≡ fmt

@@ -1,24 +1,20 @@
 -- The records that `locate` and `field_part` speak of are those that reading has.
 -- Assumes nothing.
-use Prim.Native.Nat.{ℕ, _+_, _≤_, _<_}
+use Prim.Native.Nat.{ℕ}
 use mathlib.Core.Path.{_≡_, _∙_, refl, sym, ap}
-use mathlib.Core.Bool.{true}
 use mathlib.Core.List.{List}
-use mathlib.Core.Option.{Option, none, some}
+use mathlib.Core.Option.{none, some}
 use native.Mathlib.Omega.{arith}
-use lib.ListN.{length, getElem?, take, drop}
+use lib.ListN.{length, drop}
 use Rattle.rules.specs.Digits.{part}
-use Rattle.rules.specs.Body.{Record, Body, ratesOf, recordAt, parseBody, formOfBody}
-use Rattle.rules.specs.File.{File, file, readFile, recordsIn}
-use Rattle.rules.specs.declared.Cause.{Cause}
+use Rattle.rules.specs.Body.{Record, recordAt}
 use Rattle.rules.specs.declared.Format.{Format}
 use Rattle.rules.specs.declared.Format.the-variants.{F203}
 use Rattle.form.specs.Walk.{recordStart}
 use Rattle.form.proofs.Standing.{rates-full, record-whole}
-use Rattle.about_files.proofs.Body.{body-exactly}
-use Rattle.about_files.proofs.Reading.{read-exactly, lawful-facts}
-use Rattle.records.specs.Locating.{placesOf, placesAt, locate, from, size}
-use Rattle.records.specs.Reading.{fieldOf, recordsOf, recordIn}
+use Rattle.about_files.proofs.Accepted.{accepted}
+use Rattle.records.specs.Locating.{locate, from, size}
+use Rattle.records.specs.Reading.{fieldOf, recordIn}
 use Rattle.records.specs.declared.Places.{Places}
 use Rattle.records.specs.declared.Located.{Located}
 use Rattle.records.specs.declared.Located.the-variants.{At, Refused}
@@ -28,17 +24,9 @@ use Rattle.records.proofs.Bodies.{stands-facts}
 use Rattle.records.proofs.Finding.{FoundAt, found-facts, record-found, record-missing, part-is}
 use Rattle.about_bodies.specs.Records.{SameRecords, FieldsAt, PlacesFound, PlacesHold}
 
--- a file that is read has the body that its bytes parse as
-pub parsed : (plant : Option (List ℕ)) (name body : List ℕ) (f : File) → readFile plant name body ≡ file f
-    → (parseBody (f .name .format) body ≡ some (f .body)) × (formOfBody (f .name .format) (f .body) ≡ true)
-parsed plant name body f e =
-    let m = read-exactly plant name body f .0 e in
-    let form = lawful-facts plant f (m .fields) .0 .form in
-    (body-exactly (f .name .format) body (f .body) .1 (m .bodyBytes, form), form)
-
 pub same-records : SameRecords
 unfolding recordIn
-same-records plant name body f i e = rw (parsed plant name body f e .0) refl
+same-records plant name body f i e = rw (accepted plant name body f e .parses) refl
 
 -- ---- places
 

@@ -1,15 +1,15 @@
 -- Of a 201 or 202 the writer looks at neither flag nor next access.
 -- Assumes nothing.
 use Prim.Native.Nat.{ℕ}
-use mathlib.Core.Path.{_≡_, _∙_, refl, sym, ap}
+use mathlib.Core.Path.{_≡_, _∙_, refl, sym}
 use mathlib.Core.Bool.{Bool, true, false, _||_, or-true, false≢true}
 use mathlib.Core.List.{List}
 use lib.Dec.{leb, eqb}
 use borrow.Author.Tests.{eqb-true}
 use Rattle.rules.specs.Calendar.{monthAt}
 use Rattle.rules.specs.Name.{formatOf}
-use Rattle.rules.specs.Writer.{Fields, writeBody, digitsFit, monthsFit, fieldRecords, monthRecords}
-use Rattle.plan.specs.Fields.{fieldsOf, monthFields}
+use Rattle.rules.specs.Writer.{writeBody, digitsFit, monthsFit, fieldRecords, monthRecords}
+use Rattle.plan.specs.Fields.{fieldsOf}
 use Rattle.writer.proofs.Months.{same-months}
 use Rattle.about_bodies.specs.Unread.{NotLookedAt}
 

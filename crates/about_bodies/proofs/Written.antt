@@ -23,12 +23,12 @@ use Rattle.laws.proofs.Tests.{both}
 use Rattle.laws.proofs.Bytes.{same-equal}
 use Rattle.about_files.specs.Writing.{endToEnd, firstStart, firstNext, NameFor, fileFor, ReadsBack}
 use Rattle.about_files.proofs.Written.{Fit, Good, written-facts, fields-good, written-reads}
+use Rattle.about_files.proofs.Accepted.{accepted}
 use Rattle.plan.specs.Fields.{fieldsOf}
 use Rattle.records.specs.Reading.{fieldOf, fieldIn, recordIn, ratesOutput}
 use Rattle.records.specs.declared.Field.{Field}
 use Rattle.records.specs.declared.Field.the-variants.{Schedule, Plant, Start, Flag, Next}
 use Rattle.about_bodies.specs.Written.{Holds, FieldsRead, WrittenFields}
-use Rattle.about_bodies.proofs.Records.{parsed}
 
 -- ---- outputs
 
@@ -95,7 +95,7 @@ module _ (w : Fields) (room : ℕ) (b : List ℕ) (f : Format) (n : Name) (e : w
   good = fields-good f w q fit
 
   parses : parseBody f b ≡ some (schedule rs)
-  parses = subst (λ (g : Format). parseBody g b ≡ some (schedule rs)) (h .format) (parsed none (encodeName n) b (fileFor f w n) (back .read) .0)
+  parses = subst (λ (g : Format). parseBody g b ≡ some (schedule rs)) (h .format) (accepted none (encodeName n) b (fileFor f w n) (back .read) .parses)
 
   record-is : (i : ℕ) → recordIn f b i ≡ getElem? rs i
   unfolding recordIn

@@ -3,20 +3,19 @@
 use Prim.Native.Nat.{ℕ, zero, suc, _≤_, _<_}
 use mathlib.Core.Path.{_≡_, _∙_, refl, sym, ap, subst}
 use mathlib.Core.Bool.{true, false≢true}
-use mathlib.Core.List.{List, [], _∷_, _++_}
+use mathlib.Core.List.{List, [], _∷_}
 use mathlib.Core.Option.{Option, none, some}
 use native.Mathlib.Omega.{arith}
-use lib.ListN.{length, getElem?, take, drop}
+use lib.ListN.{length, getElem?, take}
 use Rattle.rules.specs.Causes.{numberOf}
 use Rattle.rules.specs.Digits.{part}
-use Rattle.rules.specs.Name.{formatNumber, formatOf}
+use Rattle.rules.specs.Name.{formatNumber}
 use Rattle.rules.specs.Body.{Record, countOf, isSchedule}
-use Rattle.rules.specs.File.{File, file, readFile, recordsIn}
-use Rattle.rules.specs.Writer.{Fields, Output, writtenOf, bufferAfter, writeBody}
+use Rattle.rules.specs.File.{File, readFile, recordsIn}
+use Rattle.rules.specs.Writer.{Output, writtenOf, bufferAfter, writeBody}
 use Rattle.rules.specs.declared.Cause.{Cause}
 use Rattle.rules.specs.declared.Format.{Format}
 use Rattle.rules.specs.declared.Format.the-variants.{F201, F202, F203, F301}
-use Rattle.rules.specs.declared.Written.{Written}
 use Rattle.rules.specs.Reading.{summaryOf, readingOf}
 use Rattle.rules.specs.declared.Summary.{Summary}
 use Rattle.rules.specs.declared.Reading.{Reading}
@@ -24,11 +23,11 @@ use Rattle.rules.specs.declared.Reading.the-variants.{Read, Refused}
 use Rattle.form.proofs.Walk.{count-positive}
 use Rattle.about_files.proofs.Causes.{numbered}
 use Rattle.about_files.proofs.Name.{format-back}
+use Rattle.about_files.proofs.Accepted.{FileRead, file-read}
 use Rattle.plan.specs.Fields.{fieldsOf}
 use Rattle.records.specs.Locating.{locate}
 use Rattle.records.specs.Reading.{fieldIn, recordIn, ratesOutput}
 use Rattle.records.specs.declared.Located.{Located}
-use Rattle.records.specs.declared.Located.the-variants.{At}
 use Rattle.records.specs.declared.Field.the-variants.{Schedule, Plant, Start, Next}
 use Rattle.c_structs.specs.Answers.{fileNumbers, writtenNumbers}
 use Rattle.c_structs.specs.Places.{placesNumbers}
@@ -37,7 +36,7 @@ use Rattle.jagwelu.specs.Bodies.{locateBy, ratesBy}
 use Rattle.about_bodies.specs.Again.{fieldsAgain}
 use Rattle.about_bodies.proofs.Records.{places-found, places-hold}
 use Rattle.about_bodies.proofs.Unread.{not-looked-at}
-use Rattle.about_bodies.proofs.Again.{FileRead, file-read, format-of, record-is, record-count, count-is, body-again}
+use Rattle.about_bodies.proofs.Again.{format-of, record-is, record-count, count-is, body-again}
 use Rattle.about_bodies_c.specs.Again.{places, copied, fieldsFromC, Again, AgainFrom, BodyAgainFromC}
 
 -- no cause has the number 0

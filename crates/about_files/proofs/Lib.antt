@@ -8,6 +8,7 @@ pub mod Name
 pub mod Reading
 pub mod Refusals
 pub mod ReadRefusals
+pub mod Accepted
 pub mod Calendar
 pub mod MonthStart
 pub mod Months

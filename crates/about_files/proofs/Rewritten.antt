@@ -14,20 +14,20 @@ use Rattle.rules.specs.Digits.{allAtMost, digits, value, decimal, sameBytes}
 use Rattle.rules.specs.Calendar.{monthAt, slotsOfMonth, firstSlot, monthCount}
 use Rattle.rules.specs.Plant.{plantId}
 use Rattle.rules.specs.Name.{Name, formatOf, segmentMonth}
-use Rattle.rules.specs.Body.{Record, schedule, countOf, flagDigits, nextDigits, formOfRecord, every, isSchedule, formOfBody, encodeBody, highestRate}
-use Rattle.rules.specs.File.{File, monthsFrom, updateDates, recordDates, datesHold, ratesHold, checksumsHold, plantsHold, checksumOf, wholeMonth}
+use Rattle.rules.specs.Body.{Record, schedule, countOf, flagDigits, nextDigits, formOfRecord, every, isSchedule, encodeBody, highestRate}
+use Rattle.rules.specs.File.{File, monthsFrom, updateDates, recordDates, checksumOf, wholeMonth}
 use Rattle.rules.specs.Writer.{Fields, bytes, fieldRecords, monthStart, monthRecord, monthRecords, updateRecord, digitsFit, monthsFit, writeBody}
 use Rattle.rules.specs.declared.Format.{Format}
 use Rattle.rules.specs.declared.Format.the-variants.{F201, F202, F203, F301}
 use Rattle.laws.proofs.Tests.{both, join}
 use Rattle.laws.proofs.Bytes.{same-equal, same-self, at-most-at}
 use Rattle.laws.proofs.Facts.{of-digits, Digits, month-facts, WholeMonth}
+use Rattle.about_files.proofs.Accepted.{scheduled}
 use Rattle.about_files.specs.Reading.{FileBytes}
 use Rattle.about_files.specs.Writing.{endToEnd, sharedSchedule, fieldsOf, ReadWritten, ReadWrittenWithPlant}
 use Rattle.about_files.proofs.Numerals.{all-append, decimal-value}
 use Rattle.about_files.proofs.Record.{Form, form-facts}
 use Rattle.about_files.proofs.Name.{format-back}
-use Rattle.about_files.proofs.Body.{schedule-facts}
 use Rattle.about_files.proofs.Calendar.{slotsFrom, slots-between}
 use Rattle.about_files.proofs.MonthStart.{at-small, start-is}
 use Rattle.about_files.proofs.Reading.{read-without-plant, read-with-plant}
@@ -267,21 +267,19 @@ module _ (name body : List ℕ) (f : File) (rs : List Record) (room : ℕ) where
 
   rewritten : FileBytes name body f → plantId (f .name .plant) ≡ true → f .body ≡ schedule rs → sharedSchedule rs ≡ true → length body ≤ room
       → writeBody (fieldsOf fmt rs) room ≡ bytes body
-  unfolding datesHold ratesHold checksumsHold plantsHold
   rewritten m id b shared h =
-      let u = m .rules in
-      let form = schedule-facts fmt rs (ap (formOfBody fmt) (sym b) ∙ u .form) in
+      let u = scheduled f rs (m .rules) b in
       let known : Known fmt (f .name .plant) rs = record {
         plant = id;
-        scheduled = form .0;
-        count = form .1;
-        form = form .2;
-        rates = ap ratesHold (sym b) ∙ u .rates;
-        checksums = ap checksumsHold (sym b) ∙ u .checksums;
-        plants = ap (plantsHold (f .name)) (sym b) ∙ u .plants;
+        scheduled = u .kind;
+        count = u .count;
+        form = u .form;
+        rates = u .rates;
+        checksums = u .checksums;
+        plants = u .plants;
         shared = shared;
       } in
-      let x = back fmt (f .name) rs known (ap (datesHold (f .name)) (sym b) ∙ u .dates) in
+      let x = back fmt (f .name) rs known (u .dates) in
       let e : encodeBody (schedule (fieldRecords fmt (fieldsOf fmt rs))) ≡ body =
       ap (λ (q : List Record). encodeBody (schedule q)) (x .1) ∙ ap encodeBody (sym b) ∙ sym (m .bodyBytes) in
       facts-written (fieldsOf fmt rs) room fmt (number rs) (x .0) (rw e h) ∙ ap bytes e

@@ -18,7 +18,7 @@ use Rattle.calendar.proofs.Laws.{first-day-step, first-day-monotone, fi
 use Rattle.calendar.proofs.Scan.{four-is}
 
 -- what a test chose
-cond-some : (b : Bool) (x t : ℕ) → cond b (some x) none ≡ some t → (b ≡ true) × (x ≡ t)
+pub cond-some : (b : Bool) (x t : ℕ) → cond b (some x) none ≡ some t → (b ≡ true) × (x ≡ t)
 cond-some true x t e = (refl, (cc))
 cond-some false x t e = let z : _≡_ {A = ℕ} 0 1 = cc in absurd (omega arith)
 

@@ -2,9 +2,9 @@
 -- Assumes nothing.
 use Prim.Native.Nat.{ℕ, zero, suc, _+_, _*_, _≤_, _<_}
 use mathlib.Core.Path.{_≡_, _∙_, refl, ap}
-use mathlib.Core.Bool.{true}
+use mathlib.Core.Bool.{true, Bool, false, cond, _&&_}
 use mathlib.Core.List.{List}
-use mathlib.Core.Option.{some}
+use mathlib.Core.Option.{some, none, Option·map}
 use native.Mathlib.Nat.{suc-mul}
 use native.Mathlib.Omega.{arith}
 use lib.Dec.{lit≤}
@@ -12,14 +12,14 @@ use borrow.Author.Tests.{eqb-true}
 use lib.ListN.{length, getElem?, drop, length-drop}
 use lib.Seq.{drop-drop}
 use Rattle.rules.specs.Digits.{part, digits}
-use Rattle.rules.specs.Body.{countOf, tailDigits, ratesOf, sizeOf, recordShape, recordAt}
+use Rattle.rules.specs.Body.{countOf, tailDigits, ratesOf, sizeOf, recordShape, recordAt, Record, schedule, counted, parseBody, isSchedule}
 use Rattle.rules.specs.Lister.{totalRates}
 use Rattle.rules.specs.declared.Format.{Format}
 use Rattle.laws.proofs.Tests.{both}
 use Rattle.laws.proofs.Bytes.{part-length}
 use Rattle.form.specs.Walk.{shaped, recordsFrom, recordStart, Whole}
 use Rattle.digits.proofs.Parts.{at-most-part}
-use Rattle.form.proofs.Walk.{whole}
+use Rattle.form.proofs.Walk.{whole, rest-is}
 
 -- ---- the fields of a record that stands at the front of s
 
@@ -100,3 +100,15 @@ module _ (f : Format) (body : List ℕ) (e : shaped f (countOf f) (drop 6 body) 
   -- it ends within the body
   pub rates-within : recordStart f body k + 53 + ratesOf (drop (recordStart f body k) body) + tailDigits f ≤ length body
   rates-within = omega (arith, record-whole .room, length-drop (recordStart f body k) body)
+
+-- ---- what a schedule's body parses as
+
+pub parse-is : (f : Format) (body : List ℕ) → isSchedule f ≡ true
+    → parseBody f body ≡ cond (counted f body && shaped f (countOf f) (drop 6 body)) (some (schedule (recordsFrom f (countOf f) (drop 6 body)))) none
+unfolding parseBody
+parse-is f body i = rw (rest-is f (drop 6 body) i) (go (counted f body) (shaped f (countOf f) (drop 6 body)) (recordsFrom f (countOf f) (drop 6 body)))
+  where
+    go : (c t : Bool) (rs : List Record) → cond c (Option·map schedule (cond t (some rs) none)) none ≡ cond (c && t) (some (schedule rs)) none
+    go false t rs = refl
+    go true false rs = refl
+    go true true rs = refl

@@ -2,16 +2,16 @@
 -- Assumes nothing.
 use Prim.Native.Nat.{ℕ, _-_}
 use mathlib.Core.Path.{_≡_, _∙_, refl}
-use mathlib.Core.Bool.{Bool, true, false, cond, _&&_}
+use mathlib.Core.Bool.{Bool, true, false, cond}
 use mathlib.Core.List.{List}
-use mathlib.Core.Option.{none, some, Option·map}
+use mathlib.Core.Option.{none, some}
 use lib.ListN.{length, take, drop}
 use Rattle.rules.specs.Body.{Record, schedule, countOf, parseBody, counted, isSchedule}
 use Rattle.rules.specs.declared.Format.{Format}
 use Rattle.laws.proofs.Tests.{both}
-use Rattle.digits.proofs.Scan.{part-rest}
+use Rattle.laws.proofs.Bytes.{part-rest}
 use Rattle.form.specs.Walk.{shaped, recordsFrom}
-use Rattle.form.proofs.Walk.{rest-is}
+use Rattle.form.proofs.Standing.{parse-is}
 use Rattle.records.specs.Standing.{standing, Stands}
 
 module _ (f : Format) (body : List ℕ) where
@@ -33,13 +33,7 @@ module _ (f : Format) (body : List ℕ) where
 -- a schedule's body parses where it stands
 pub parse-standing : (f : Format) (body : List ℕ) → isSchedule f ≡ true
     → parseBody f body ≡ cond (standing f body) (some (schedule (recordsAt f body))) none
-unfolding parseBody
-parse-standing f body i = rw (rest-is f (drop 6 body) i) (go (counted f body) (shaped f (countOf f) (drop 6 body)) (recordsAt f body))
-  where
-    go : (c t : Bool) (rs : List Record) → cond c (Option·map schedule (cond t (some rs) none)) none ≡ cond (c && t) (some (schedule rs)) none
-    go false t rs = refl
-    go true false rs = refl
-    go true true rs = refl
+parse-standing f body i = parse-is f body i
 
 module _ (f : Format) (body : List ℕ) (i : isSchedule f ≡ true) where
   pub parses-not : standing f body ≡ false → parseBody f body ≡ none

@@ -16,6 +16,7 @@ use Rattle.rules.specs.Reading.{readingOf}
 use Rattle.rules.specs.Table.{firstOf}
 use Rattle.rules.specs.declared.Summary.{Summary}
 use Rattle.rules.specs.declared.Reading.the-variants.{Read, Refused}
+use Rattle.about_files.proofs.Accepted.{FileRead, file-read, read-refused}
 use Rattle.pool.specs.Blocks.{freeCount}
 use Rattle.pool.specs.declared.Pool.{Pool}
 use Rattle.schedule.specs.Stored.{Stored, storeHolds, missing}
@@ -32,7 +33,7 @@ use Rattle.unit.specs.declared.Unit.{Unit}
 use Rattle.unit.specs.declared.Done.{Done}
 use Rattle.unit.specs.declared.Clock.the-variants.{Unset, At}
 use Rattle.unit.proofs.LentLaws.{lent-row}
-use Rattle.taking.proofs.ReadLaws.{FileRead, outcome-refused, outcome-read, body-room, start-is, rates-are, records-are, following, requests-are}
+use Rattle.taking.proofs.ReadLaws.{body-room, start-is, rates-are, records-are, following, requests-are}
 
 module _ (u : Unit) (store name body : List ℕ) where
   -- the call's answer, and the store after it
@@ -57,7 +58,7 @@ module _ (u : Unit) (store name body : List ℕ) where
         pub take-refused : (c : Cause) → readingOf (takeFile (u .plant .id) name body) ≡ Refused c → Takes (refusal u c) store
         unfolding takeOf storeAfterTake firstOf
         take-refused c got =
-            let e = outcome-refused (takeFile (u .plant .id) name body) c got in
+            let e = read-refused (takeFile (u .plant .id) name body) c got in
             rw (eq-eqb (length store) storeLength long, lent-row u store true long good, ap isUnset set, e) (refl, refl)
 
         module _ (f : File) (e : takeFile (u .plant .id) name body ≡ file f) where
@@ -86,7 +87,7 @@ module _ (u : Unit) (store name body : List ℕ) where
         -- what the file says is its summary
         module _ (x : Summary) (got : readingOf (takeFile (u .plant .id) name body) ≡ Read x) where
           read : FileRead (takeFile (u .plant .id) name body) x
-          read = outcome-read (takeFile (u .plant .id) name body) x got
+          read = file-read (takeFile (u .plant .id) name body) x got
 
           module _ (free needed : ℕ) (free≡ : free ≡ freeCount (u .pool)) (needed≡ : needed ≡ missing (u .pool) (u .floor) (x .start) (x .rates)) where
             room : (b : Bool) → ltb free needed ≡ b → fullRow (read .the-file) u .applies ≡ b
@@ -112,7 +113,7 @@ module _ (u : Unit) (store name body : List ℕ) where
 -- a body that is read has its count, and its records follow each other
 module _ (plant name body : List ℕ) (x : Summary) (got : readingOf (takeFile plant name body) ≡ Read x) where
   pub read-room : 6 ≤ length body
-  read-room = let r = outcome-read (takeFile plant name body) x got in body-room plant name body (r .the-file) (r .is)
+  read-room = let r = file-read (takeFile plant name body) x got in body-room plant name body (r .the-file) (r .is)
 
   pub read-following : Following (x .format) (x .records) (x .start) (take (length body - 6) (drop 6 body))
-  read-following = let r = outcome-read (takeFile plant name body) x got in following plant name body (r .the-file) (r .is) x (r .summary)
+  read-following = let r = file-read (takeFile plant name body) x got in following plant name body (r .the-file) (r .is) x (r .summary)
