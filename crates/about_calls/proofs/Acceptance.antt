@@ -17,17 +17,15 @@ use Rattle.laws.proofs.Tests.{both, isnt}
 use Rattle.about_files.proofs.Reading.{taken-exactly}
 use Rattle.pool.specs.Blocks.{findOf, freeCount}
 use Rattle.pool.specs.Held.{Held, Sound, heldMonths, soundPool}
-use Rattle.pool.specs.declared.Pool.{Pool}
 use Rattle.pool.specs.declared.Found.{Found}
 use Rattle.pool.specs.declared.Found.the-variants.{At, Nothing}
-use Rattle.pool.proofs.Laws.{find-at, find-in, free-is, months-held, months-once}
+use Rattle.pool.proofs.Laws.{find-at, find-in, free-is, months-held, months-once, held-months, months-few}
 use Rattle.pool.proofs.SoundLaws.{pool-facts}
 use Rattle.schedule.specs.Stored.{meets, missing, isNothing}
 use Rattle.about_store.specs.Run.{GoodFile, runStart, runLength}
 use Rattle.about_store.proofs.Rooms.{any-run}
 use Rattle.about_store.proofs.Counts.{count-add, count-list, count-same, member-mem, mem-member, one-more}
 use Rattle.about_store.proofs.Laws.{taken-good}
-use Rattle.about_store.proofs.Given.{held-months, months-few}
 use Rattle.unit.specs.Values.{isSound}
 use Rattle.taking.specs.Taken.{takeOf, fullRow}
 use Rattle.unit.specs.declared.Unit.{Unit}
@@ -49,9 +47,6 @@ sound-pool u e =
     pool-facts (u .pool) (u .floor) (both v s (e₁ .0) .1)
 
 module _ (u : Unit) (good : isSound u ≡ true) where
-  p : Pool
-  p = u .pool
-
   facts : Sound (u .pool) (u .floor)
   facts = sound-pool u good
 

@@ -13,10 +13,10 @@ use Rattle.plant.specs.declared.Plant.{Plant}
 use Rattle.pool.specs.Blocks.{isFree, monthOf}
 use Rattle.pool.specs.Held.{InBlock, Held, Sound, heldMonths}
 use Rattle.pool.specs.declared.Pool.{Pool}
-use Rattle.pool.proofs.Laws.{months-held}
+use Rattle.pool.proofs.Laws.{months-held, held-months}
 use Rattle.schedule.specs.Stored.{place}
 use Rattle.about_store.proofs.Counts.{member-mem, mem-member}
-use Rattle.about_store.proofs.Given.{held-months, free-held}
+use Rattle.about_store.proofs.Given.{free-held}
 use Rattle.about_store.proofs.Laws.{bytes-agree}
 use Rattle.taking.specs.Step.{State, step, after}
 use Rattle.about_calls.specs.Theorem.{fresh, toldBy}

@@ -19,11 +19,10 @@ use Rattle.about_files.proofs.Reading.{taken-exactly}
 use Rattle.about_files.proofs.Table.{answerBy}
 use Rattle.pool.specs.Blocks.{freeCount}
 use Rattle.pool.specs.Held.{heldOf}
-use Rattle.pool.proofs.Laws.{free-is}
+use Rattle.pool.proofs.Laws.{free-is, months-few}
 use Rattle.schedule.specs.Stored.{missing}
 use Rattle.about_store.specs.Run.{GoodFile, runStart, runLength}
 use Rattle.about_store.proofs.Laws.{taken-good}
-use Rattle.about_store.proofs.Given.{months-few}
 use Rattle.unit.specs.Values.{isSound}
 use Rattle.unit.specs.Rows.{isUnset}
 use Rattle.unit.specs.Calls.{doneBy}

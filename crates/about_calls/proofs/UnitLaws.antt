@@ -3,7 +3,6 @@ use Prim.Native.Nat.{ℕ}
 use mathlib.Core.Path.{_≡_}
 use mathlib.Core.Bool.{true, false}
 use mathlib.Core.List.{List}
-use mathlib.Core.Option.{none}
 use lib.Dec.{ltb, eqb}
 use lib.ListN.{length}
 use Rattle.rules.specs.Calendar.{endOfTime, slotCount}
@@ -19,7 +18,7 @@ use Rattle.schedule.specs.Stored.{storedRate}
 use Rattle.unit.specs.Values.{isSound}
 use Rattle.unit.specs.Rows.{isUnset}
 use Rattle.unit.specs.Calls.{ticked, tickOf, ceilingOf as ceilingAt, ceilingAnswer}
-use Rattle.taking.specs.Taken.{takeOf, storeAfterTake, fullRow, taken, storeWith, withFile}
+use Rattle.taking.specs.Taken.{takeOf, storeAfterTake, fullRow, storeWith, withFile}
 use Rattle.taking.specs.Step.{State, Step, step}
 
 -- a refusal: the cause's number, and the state as it was

@@ -15,9 +15,10 @@ use Rattle.laws.proofs.Tests.{both}
 use Rattle.pool.specs.Blocks.{isFree, monthOf}
 use Rattle.pool.specs.Held.{InBlock, heldBelow, heldOf, soundPool}
 use Rattle.pool.proofs.SoundLaws.{facts-pool}
+use Rattle.pool.proofs.Laws.{held-months}
 use Rattle.schedule.specs.Stored.{Stored, storeHolds}
 use Rattle.about_store.specs.Agrees.{rateAt, bytesFrom, monthBytes, BlocksHave, Agrees}
-use Rattle.about_store.proofs.Given.{member-held, held-months}
+use Rattle.about_store.proofs.Given.{member-held}
 use Rattle.about_store.proofs.Shown.{block-length, block-at, store-view}
 use Rattle.about_store.proofs.Records.{viewOf}
 use Rattle.about_store.proofs.Steps.{agrees-shows, agrees-plain}

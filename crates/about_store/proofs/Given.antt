@@ -2,9 +2,8 @@
 -- Assumes nothing.
 use mathlib.Core.Path.{_≡_, refl, sym, ap, _∙_}
 use mathlib.Core.Logic.{_⊎_, inl, inr, _↔_}
-use mathlib.Core.Bool.{Bool, true, false, cond, not, _&&_, false≢true, and-true}
-use mathlib.Core.List.{List, _∷_, map}
-use Prim.Native.Nat.{ℕ, zero, suc, _+_, _-_, _^_, _≤_, _<_}
+use mathlib.Core.Bool.{Bool, true, false, not, _&&_, false≢true, and-true}
+use Prim.Native.Nat.{ℕ, _+_, _-_, _^_, _<_}
 use native.Mathlib.Omega.{arith}
 use lib.Dec.{eqb}
 use lib.ListN.{length, getD, set, length-set}
@@ -12,14 +11,14 @@ use lib.Seq.{getD-set-same, getD-set-other}
 use borrow.Author.Tests.{eqb-true, eqb-false, eq-eqb}
 use Rattle.rules.specs.Calendar.{monthCount}
 use Rattle.rules.specs.Machine.{countBelow}
-use Rattle.rules.specs.Store.{Held as HeldMonth, member, blockCount}
+use Rattle.rules.specs.Store.{member, blockCount}
 use Rattle.laws.proofs.Tests.{same}
-use Rattle.pool.specs.Blocks.{isFree, monthOf, freeCount, findOf, given, freeAfter, releaseOf}
-use Rattle.pool.specs.Held.{InBlock, Held, Sound, monthsBelow, heldMonths, heldBelow}
+use Rattle.pool.specs.Blocks.{isFree, freeCount, findOf, given, freeAfter, releaseOf}
+use Rattle.pool.specs.Held.{InBlock, Held, Sound, heldMonths}
 use Rattle.pool.specs.declared.Pool.{Pool}
 use Rattle.pool.specs.declared.Found.the-variants.{At, Nothing}
 use Rattle.pool.proofs.BelowLaws.{bit-number, number-lt}
-use Rattle.pool.proofs.Laws.{find-in, free-is, months-held, months-once}
+use Rattle.pool.proofs.Laws.{find-in, free-is, months-held, months-once, months-few}
 use Rattle.about_store.specs.Untouched.{Keeps}
 use Rattle.about_store.proofs.Counts.{count-same, count-list, member-mem, mem-member}
 
@@ -83,26 +82,6 @@ found-not p floor m s e h =
     omega arith
 
 -- ---- the held months as a list, and as a test
-
-pub months-few : (k : ℕ) (p : Pool) → length (monthsBelow k p) ≤ k
-unfolding monthsBelow
-months-few zero p = omega arith
-months-few (suc k) p = go (isFree p k) (months-few k p)
-  where
-    go : (x : Bool) → length (monthsBelow k p) ≤ k → length (cond x (monthsBelow k p) (monthOf p k ∷ monthsBelow k p)) ≤ suc k
-    go true h = omega arith
-    go false h = omega arith
-
-pub held-months : (k : ℕ) (p : Pool) → map (λ (h : HeldMonth). h .month) (heldBelow k p) ≡ monthsBelow k p
-unfolding monthsBelow heldBelow
-held-months zero p = refl
-held-months (suc k) p = go (isFree p k) (held-months k p)
-  where
-    go : (x : Bool) → map (λ (h : HeldMonth). h .month) (heldBelow k p) ≡ monthsBelow k p
-        → map (λ (h : HeldMonth). h .month) (cond x (heldBelow k p) (record { month = monthOf p k; block = k } ∷ heldBelow k p))
-        ≡ cond x (monthsBelow k p) (monthOf p k ∷ monthsBelow k p)
-    go true e = e
-    go false e = ap (λ (l : List ℕ). monthOf p k ∷ l) e
 
 module _ (p : Pool) (floor : ℕ) (s : Sound p floor) (test : ℕ → Bool) (is : (m : ℕ) → Held p m ↔ (test m ≡ true)) where
   pub member-held : (m : ℕ) → member m (heldMonths p) ≡ test m

@@ -7,15 +7,10 @@ use native.Mathlib.Nat.{pow-le-pow-right, lt-of-lt-of-le}
 use native.Mathlib.Omega.{arith}
 use borrow.Author.Tests.{le-leb, lt-leb, leb-true, leb-false}
 use lib.Dec.{leb, eqb, lit<}
-use lib.ListN.{length, getD, drop, take, drop-of-length-le, length-drop}
-use lib.Seq.{take-all}
+use lib.ListN.{length, getD, drop, take, drop-of-length-le}
 use Rattle.rules.specs.Digits.{allAtMost, allAscii, sameBytes, valueFrom}
 use Rattle.rules.specs.File.{sum}
 use Rattle.laws.proofs.Bytes.{at-next}
-
--- `&s[a..]` is the rest from a on
-pub part-rest : (s : List ℕ) (a : ℕ) → take (length s - a) (drop a s) ≡ drop a s
-part-rest s a = take-all (length s - a) (drop a s) (simp length-drop (omega arith))
 
 -- the greater of two numbers is at most m where both are
 pub max-at-most : (a b m : ℕ) → leb (max a b) m ≡ (leb a m && leb b m)

@@ -4,9 +4,7 @@ use Prim.Native.Nat.{ℕ, _-_, _≤_, _<_}
 use mathlib.Core.Path.{_≡_, _∙_, refl, sym}
 use mathlib.Core.Bool.{Bool, true, false, _&&_, and-false, and-true}
 use mathlib.Core.List.{List}
-use native.Mathlib.Omega.{arith}
-use lib.ListN.{length, getD, take, drop, length-drop}
-use lib.Seq.{take-all}
+use lib.ListN.{length, getD, take, drop}
 use borrow.Author.Tests.{le-leb, lt-leb, leb-true}
 use Rattle.rules.specs.ErrorFile.{isErrorFile, utf8, errorCode, codeOf, errorText}
 use Rattle.rules.specs.declared.Cause.{Cause}
@@ -14,12 +12,10 @@ use Rattle.error_file.specs.Head.{hasHead, Headed}
 use Rattle.error_file.specs.Code.{codeIn}
 use Rattle.rules.specs.declared.ErrorCode.{ErrorCode}
 use Rattle.laws.proofs.Tests.{both}
+use Rattle.laws.proofs.Bytes.{part-rest}
 use Rattle.error_file.proofs.Head.{three, is-digit, zero-or-one}
 
 module _ (s : List ℕ) where
-  text-part : take (length s - 6) (drop 6 s) ≡ drop 6 s
-  text-part = take-all (length s - 6) (drop 6 s) (simp length-drop (omega arith))
-
   -- ---- what `is_error_file` answers at each of its returns
   pub too-short : length s < 6 → false ≡ isErrorFile s
   unfolding isErrorFile
@@ -32,7 +28,7 @@ module _ (s : List ℕ) where
   pub checked : {h u : Bool} → 6 ≤ length s → length s - 6 ≤ 384 → h ≡ hasHead s → u ≡ utf8 (take (length s - 6) (drop 6 s))
       → (h && u) ≡ isErrorFile s
   unfolding isErrorFile hasHead
-  checked room few h≡ u≡ = rw (h≡, u≡, text-part) (simp (le-leb 6 (length s) room, le-leb (length s - 6) 384 few, and-true))
+  checked room few h≡ u≡ = rw (h≡, u≡, (part-rest s 6)) (simp (le-leb 6 (length s) room, le-leb (length s - 6) 384 few, and-true))
 
   -- ---- what is known of a file that keeps its form
   pub headed : true ≡ isErrorFile s → Headed s
@@ -67,4 +63,4 @@ module _ (s : List ℕ) where
 
   pub text-given : true ≡ isErrorFile s → take (length s - 6) (drop 6 s) ≡ errorText s
   unfolding errorText
-  text-given e = rw (sym e) text-part
+  text-given e = rw (sym e) (part-rest s 6)

@@ -1,9 +1,9 @@
 -- An empty text is told from none by the code. Assumes nothing.
-use Prim.Native.Nat.{ℕ, _≤_}
+use Prim.Native.Nat.{ℕ}
 use mathlib.Core.Path.{_≡_, refl, sym, _∙_, ap}
-use mathlib.Core.Bool.{Bool, true, false, false≢true}
+use mathlib.Core.Bool.{Bool, true, false}
 use mathlib.Core.List.{List, []}
-use lib.ListN.{length, drop}
+use lib.ListN.{drop}
 use Rattle.rules.specs.ErrorFile.{isErrorFile, errorCode, codeOf, errorText}
 use Rattle.rules.specs.declared.Cause.{Cause}
 use Rattle.rules.specs.declared.ErrorCode.{ErrorCode}

@@ -15,11 +15,11 @@ use Rattle.rules.specs.Body.{Record, schedule, countOf, mostRates, tailDigits, 
 use Rattle.rules.specs.declared.Format.{Format}
 use Rattle.rules.specs.declared.Format.the-variants.{F201, F202, F203, F301}
 use Rattle.laws.proofs.Tests.{both}
+use Rattle.laws.proofs.Bytes.{part-rest}
 use Rattle.laws.proofs.Facts.{most-bound, record-shape}
 use Rattle.layout.specs.Records.{countAt, sizeAt}
 use Rattle.layout.proofs.Counts.{count-is}
 use Rattle.form.specs.Walk.{shaped, recordsFrom, Whole, Sized}
-use Rattle.digits.proofs.Scan.{part-rest}
 
 pub count-bound : (f : Format) → countOf f ≤ 13
 count-bound F201 = lit≤ tt

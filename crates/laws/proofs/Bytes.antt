@@ -8,8 +8,8 @@ use native.Mathlib.Nat.{pow-suc, min-eq-left}
 use native.Mathlib.Numerals.{add-one}
 use native.Mathlib.Omega.{arith}
 use lib.Dec.{leb, eqb}
-use lib.ListN.{length, getD, drop, length-append, length-drop, drop-of-length-le}
-use lib.Seq.{drop-cons, drop-length, length-take-le, drop-append-le, take-append-le}
+use lib.ListN.{length, getD, drop, length-append, length-drop, drop-of-length-le, take}
+use lib.Seq.{drop-cons, drop-length, length-take-le, drop-append-le, take-append-le, take-all}
 use borrow.Author.Tests.{leb-true, leb-false, le-leb, eqb-true, eq-eqb}
 use Rattle.rules.specs.Digits.{part, allAtMost, allDigits, allAscii, fromAscii, decimal, sameBytes}
 use Rattle.laws.proofs.Tests.{both, join}
@@ -28,6 +28,10 @@ pub part-front : (s t : List ℕ) (i n : ℕ) → i + n ≤ length s → part (s
 part-front s t i n h =
     let l = length-drop i s in
     rw (drop-append-le i s t (omega arith), take-append-le n (drop i s) t (omega arith)) refl
+
+-- `&s[a..]` is the rest from a on
+pub part-rest : (s : List ℕ) (a : ℕ) → take (length s - a) (drop a s) ≡ drop a s
+part-rest s a = take-all (length s - a) (drop a s) (simp length-drop (omega arith))
 
 -- no more can be dropped than there is
 pub drop-most : (k : ℕ) (x : List ℕ) → drop (min k (length x)) x ≡ drop k x

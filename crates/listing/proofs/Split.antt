@@ -9,8 +9,7 @@ use borrow.Author.Tests.{eq-eqb, ne-eqb}
 use lib.Dec.{eqb}
 use lib.ListN.{length, getD, take, drop, drop-of-length-le, length-take}
 use Rattle.rules.specs.Lister.{namePart, bodyPart}
-use Rattle.laws.proofs.Bytes.{at-next, drop-most}
-use Rattle.digits.proofs.Scan.{part-rest}
+use Rattle.laws.proofs.Bytes.{at-next, drop-most, part-rest}
 
 -- ---- a loop that looks at one byte after another
 

@@ -46,12 +46,6 @@ module _ (f r t : ℕ) (hf : f < 1000) (hr : r < 100) (ht : t < 100000) where
       ∙ ap lineIn (sym (ok-text f r t))
 
 module _ (n : ℕ) (h : n < 100) where
-  pub refused-short : length (refusedText n) ≤ 11
-  unfolding refusedText
-  refused-short =
-      let a = numeral-short 18 1 n refl h in
-      omega (arith, length-field n 10)
-
   pub refused-puts : puts (lineIn refusedWord) (fieldText n 10) ≡ lineIn (refusedText n)
   unfolding refusedText
   refused-puts =

@@ -1,6 +1,6 @@
 -- Laws of names: what a name that keeps the form is made of, the segment's number, and the plant ID's digits.
 -- Assumes nothing.
-use Prim.Native.Nat.{ℕ, _+_, _-_, _*_, _/_, _%_, _≤_, _<_}
+use Prim.Native.Nat.{ℕ, _+_, _-_, _/_, _%_, _≤_, _<_}
 use mathlib.Core.Path.{_≡_, refl, sym, ap}
 use mathlib.Core.Bool.{Bool, true, false, cond, _&&_, _||_, false≢true}
 use mathlib.Core.List.{List, [], _∷_}
@@ -11,7 +11,7 @@ use lib.ListN.{length, length-map}
 use borrow.Author.Tests.{eqb-true, leb-true, eq-eqb, ne-eqb}
 use Rattle.rules.specs.Digits.{part, digits, allAtMost, allDigits, value, valueFrom, allAscii, fromAscii}
 use Rattle.rules.specs.Calendar.{exists, moment, secondsOf}
-use Rattle.rules.specs.Name.{Name, formatOf, segmentFits, segmentDigit, segmentMonth, lawfulName, nameShape, nameFields, nameWith, parseName, anySegment}
+use Rattle.rules.specs.Name.{Name, formatOf, segmentFits, segmentDigit, lawfulName, nameShape, nameFields, nameWith, parseName, anySegment}
 use Rattle.rules.specs.declared.Format.{Format}
 use Rattle.rules.specs.declared.Format.the-variants.{F201, F202, F203, F301}
 use Rattle.laws.proofs.Tests.{both, no-some}
@@ -75,14 +75,10 @@ module _ (s : List ℕ) (e : digits 4 s ≡ true) where
   unfolding valueFrom
   segment-below = let f = four in rw (f .whole) (omega (arith, f .first-most, f .second-most, f .third-most, f .fourth-most))
 
-  -- the first three digits, the first two, the last two and the last
+  -- the first three digits, the last two and the last
   pub segment-three : value (part s 0 3) ≡ value s / 10
   unfolding valueFrom
   segment-three = let f = four in rw (f .whole) (omega (arith, f .fourth-most))
-
-  pub segment-high : value (part s 0 2) ≡ value s / 100
-  unfolding valueFrom
-  segment-high = let f = four in rw (f .whole) (omega (arith, f .third-most, f .fourth-most))
 
   pub segment-low : value (part s 2 2) ≡ value s % 100
   unfolding valueFrom
@@ -91,9 +87,6 @@ module _ (s : List ℕ) (e : digits 4 s ≡ true) where
   pub segment-digit : segmentDigit s ≡ value s % 10
   unfolding valueFrom
   segment-digit = let f = four in rw (f .whole) (omega (arith, f .fourth-most))
-
-  pub segment-month : segmentMonth s ≡ 12 * (value s / 100) + (value s % 100 - 1)
-  segment-month = omega (arith, segment-high, segment-low)
 
   pub segment-fits : (f : Format) → segmentFits f s ≡ fits f (value s)
   unfolding segmentFits

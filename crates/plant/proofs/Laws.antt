@@ -1,10 +1,10 @@
 -- The laws of the plant: what a valid one has, what installing leaves, and the bounds of p and of the command.
 -- Assumes nothing.
-use Prim.Native.Nat.{ℕ, zero, suc, _*_, _/_, _≤_, _<_, zero-le}
+use Prim.Native.Nat.{ℕ, zero, suc, _*_, _/_, _≤_, _<_}
 use mathlib.Core.Path.{_≡_, _∙_, refl, ap}
 use mathlib.Core.Bool.{Bool, true, false, cond, _&&_}
 use mathlib.Core.List.{List, [], _∷_}
-use native.Mathlib.Nat.{le-trans, mul-le-mul-left, mul-le-mul-right, mul-comm, min-le-right, min-eq-left, div-zero, div-le-of-le-mul, div-mul-le-self, le-div-iff-mul-le}
+use native.Mathlib.Nat.{le-trans, mul-le-mul-left, mul-le-mul-right, mul-comm, min-le-right, min-eq-left, div-zero, div-le-of-le-mul}
 use native.Mathlib.Omega.{arith}
 use lib.Dec.{leb, eqb}
 use lib.ListN.{length, getD}
@@ -164,9 +164,6 @@ module _ (id mac : List ℕ) (s : Settings) where
         go true false v e = cc
         go false m v e = cc
 
-    pub accepted-valid : validPlant (installed id mac s .plant) ≡ true
-    accepted-valid = ap (λ r. validPlant (r .plant)) accepted-keeps ∙ accepted-values
-
     pub accepted-facts : Valid (plantOf id mac s)
     accepted-facts = valid-facts (plantOf id mac s) accepted-values
 
@@ -175,10 +172,6 @@ module _ (id mac : List ℕ) (s : Settings) where
 -- a product is at most the product of what its factors are at most
 pub product-below : (a b m n : ℕ) → a ≤ m → b ≤ n → a * b ≤ m * n
 product-below a b m n h k = le-trans (mul-le-mul-left a k) (mul-le-mul-right n h)
-
-quotient-rises : {m n : ℕ} (k : ℕ) → m ≤ n → m / k ≤ n / k
-quotient-rises {m} {n} zero h = rw (div-zero m) zero-le
-quotient-rises {m} {n} (suc k) h = le-div-iff-mul-le {k = suc k} {x = m / suc k} {y = n} (omega arith) .1 (le-trans (div-mul-le-self m (suc k)) h)
 
 -- no inverter, nothing of it
 pub percent-none : (s : Settings) (r : ℕ) → s .inverter ≡ 0 → percent s r ≡ 0
@@ -199,14 +192,6 @@ module _ (s : Settings) where
   pub percent-most : (r : ℕ) → r ≤ highestRate → percent s r ≤ 100
   percent-most r h = le-trans (percent-le r) h
 
-  pub percent-rises : (q r : ℕ) → q ≤ r → percent s q ≤ percent s r
-  unfolding percent
-  percent-rises q r h = quotient-rises (s .inverter) (mul-le-mul-right (contracted s) h)
-
   -- the command never aims above 100%
   pub parts-most : (r : ℕ) → r ≤ highestRate → partsOf s (percent s r) ≤ fullCommand s
   parts-most r h = le-trans (mul-le-mul-left (60 * s .minutes) (percent-most r h)) (omega arith)
-
-  -- N is at most 10, so no command is above 60,000 parts
-  pub full-most : InRange s → fullCommand s ≤ 60000
-  full-most v = omega arith

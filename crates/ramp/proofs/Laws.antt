@@ -11,13 +11,12 @@ use lib.Dec.{leb, eqb}
 use lib.ListN.{getD}
 use borrow.Author.Tests.{leb-true, leb-false, le-leb, lt-leb, eqb-false}
 use Rattle.rules.specs.Calendar.{slotOf, slotLength}
-use Rattle.rules.specs.Plant.{Settings, percent, partsOf, fullCommand}
-use Rattle.rules.specs.Body.{highestRate}
+use Rattle.rules.specs.Plant.{Settings, percent, partsOf}
 use Rattle.rules.specs.Store.{noRate, fromByte, blockLength}
 use Rattle.rules.specs.Machine.{target, orZero, approach}
 use Rattle.plant.specs.Plant.{settingsOf}
 use Rattle.plant.specs.declared.Plant.{Plant}
-use Rattle.plant.proofs.Laws.{percent-le, parts-most, product-below}
+use Rattle.plant.proofs.Laws.{percent-le, product-below}
 use Rattle.pool.specs.Blocks.{findOf}
 use Rattle.pool.specs.declared.Pool.{Pool}
 use Rattle.pool.specs.declared.Found.{Found}
@@ -117,11 +116,6 @@ module _ (s : Settings) (p : Pool) (store : List ℕ) where
       commandOver-most most n (suc c) (approach (goalOf s p store (slotOf (suc c))) x)
       (approach-most (goalOf s p store (slotOf (suc c))) x most (g (suc c) (omega arith) (omega arith)) h)
       (λ t a b. g t (omega arith) (omega arith))
-
-  -- a legal command stays legal where each rate that it meets is
-  pub commandOver-full : (n c x : ℕ) → x ≤ fullCommand s → ((t : ℕ) → c < t → t ≤ c + n → orZero (storedRate p store (slotOf t)) ≤ highestRate) → commandOver s p store n c x ≤ fullCommand s
-  commandOver-full n c x h legal =
-      commandOver-most (fullCommand s) n c x h (λ t a b. parts-most s (orZero (storedRate p store (slotOf t))) (legal t a b))
 
 -- only the slots of these seconds are read
 pub commandOver-same : (s : Settings) (p q : Pool) (store other : List ℕ) (n c x : ℕ)

@@ -8,7 +8,7 @@ use native.Mathlib.Omega.{arith}
 use lib.ListN.{length, take, drop}
 use Rattle.rules.specs.Body.{countOf, flagDigits, tailDigits, ratesOf, sizeOf}
 use Rattle.rules.specs.declared.Format.{Format}
-use Rattle.digits.proofs.Scan.{part-rest}
+use Rattle.laws.proofs.Bytes.{part-rest}
 use Rattle.layout.specs.Records.{countAt, sizeAt}
 use Rattle.form.specs.Walk.{recordStart, Whole}
 use Rattle.form.proofs.Walk.{rates-here, size-is}

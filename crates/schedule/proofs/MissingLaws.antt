@@ -115,10 +115,6 @@ module _ (p : Pool) (floor s n : ℕ) where
   abbrev pub needs-block : ℕ → Bool
   needs-block m = leb floor m && meets m s n && isNothing (findOf p m)
 
-  and-none : (a b : Bool) → b ≡ false → (a && b) ≡ false
-  and-none true b e = e
-  and-none false b e = refl
-
   needs-low : (m : ℕ) → m < max floor (monthOfSlot s) → needs-block m ≡ false
   needs-low m l = go (leb floor m) refl
     where

@@ -7,12 +7,13 @@ use mathlib.Core.List.{List, _∷_}
 use native.Mathlib.Numerals.{add-one}
 use native.Mathlib.Omega.{arith}
 use lib.Dec.{leb, eqb}
-use lib.ListN.{length, getD, take, drop, length-take, length-drop}
+use lib.ListN.{length, getD, take, drop}
 use borrow.Author.Tests.{eq-eqb, ne-eqb, le-leb, lt-leb, leb-true, leb-false, eqb-true, eqb-false}
 use Rattle.rules.specs.Calendar.{slotsOfMonth}
 use Rattle.rules.specs.Body.{highestRate}
 use Rattle.rules.specs.Store.{storeLength, noRate, all, blockOf, soundBlock, soundStore, blockCount, lawfulByte}
-use Rattle.digits.proofs.Scan.{all-step, all-end, worst-step, part-rest}
+use Rattle.laws.proofs.Bytes.{part-rest}
+use Rattle.digits.proofs.Scan.{all-step, all-end, worst-step}
 use Rattle.pool.specs.Blocks.{isFree, monthOf}
 use Rattle.pool.specs.Held.{heldBelow}
 use Rattle.pool.specs.declared.Pool.{Pool}
@@ -56,13 +57,6 @@ pub block-parts : (m end : ℕ) (block : List ℕ) (a b : Bool) → end ≡ slot
     → a ≡ all lawfulByte (take end block) → b ≡ all blankByte (take (length block - end) (drop end block)) → (a && b) ≡ soundBlock m block
 unfolding soundBlock
 block-parts m end block a b e f g = rw (f, g, part-rest block end, e)
-
--- the part from a on with n elements
-pub part-length : (l : List ℕ) (a n : ℕ) → a + n ≤ length l → length (take (a + n - a) (drop a l)) ≡ n
-part-length l a n h = simp (length-take, length-drop) (omega arith)
-
-pub part-of : (l : List ℕ) (a n : ℕ) → take (a + n - a) (drop a l) ≡ take n (drop a l)
-part-of l a n = let e : a + n - a ≡ n = omega arith in ap (λ (k : ℕ). take k (drop a l)) e
 
 -- ---- the blocks
 

@@ -8,7 +8,7 @@ use borrow.Author.Tests.{ltb-true}
 use lib.Dec.{ltb, eqb}
 use lib.ListN.{length, getD, take, drop}
 use Rattle.laws.proofs.Tests.{both}
-use Rattle.digits.proofs.Scan.{part-rest}
+use Rattle.laws.proofs.Bytes.{part-rest}
 use Rattle.script_fields.specs.Hex.{nibble, isHexDigit, allHex, hexBytes, glyph, hexText}
 
 -- ---- the test of a pair more

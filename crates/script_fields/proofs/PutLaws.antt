@@ -1,5 +1,5 @@
 -- Laws of bytes put into a buffer, one after another, and of a text that has room there or not.
-use Prim.Native.Nat.{ℕ, _+_, _-_, _*_, _/_, _≤_, _<_}
+use Prim.Native.Nat.{ℕ, _+_, _-_, _≤_, _<_}
 use mathlib.Core.Path.{_≡_, _∙_, refl, sym, ap}
 use mathlib.Core.List.{List}
 use native.Mathlib.Numerals.{add-one}

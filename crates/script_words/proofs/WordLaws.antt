@@ -5,8 +5,7 @@ use mathlib.Core.List.{List}
 use native.Mathlib.Omega.{arith}
 use borrow.Author.Tests.{eq-eqb, ne-eqb}
 use lib.ListN.{length, getD, take, drop, drop-of-length-le}
-use Rattle.laws.proofs.Bytes.{at-next, drop-most}
-use Rattle.digits.proofs.Scan.{part-rest}
+use Rattle.laws.proofs.Bytes.{at-next, drop-most, part-rest}
 use Rattle.script_words.specs.Words.{placeOf, space, spaces, afterWord, wordAt}
 
 -- ---- a loop that looks at one byte after another

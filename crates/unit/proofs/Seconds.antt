@@ -133,10 +133,6 @@ module _ (u : Unit) (store : List ℕ) (good : SoundWith u store) where
   full : u .command ≤ fullCommand (settingsOf (u .plant))
   full = leb-true (u .command) (6000 * u .plant .settings .minutes) (sound-parts u (good .unit) .command)
 
-  pub clock-sound : (t : ℕ) → t < endOfTime → SoundWith (setClock t u) store
-  unfolding setClock withCommand
-  clock-sound t l = jumped-sound t (u .command) l full
-
   pub second-keeps : (c : ℕ) → suc c < endOfTime → SoundWith (second store (suc c) u) store
   second-keeps c l =
       let settings = settingsOf (u .plant) in

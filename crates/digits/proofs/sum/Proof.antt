@@ -6,8 +6,9 @@ use borrow.Author.Tests.{le-leb, lt-leb}
 use lib.ListN.{length, length-take, length-drop}
 use lib.Seq.{length-take-le}
 use Rattle.rules.specs.File.{sum}
+use Rattle.laws.proofs.Bytes.{part-rest}
 use Rattle.digits.specs.Decimal.{ratesSum}
-use Rattle.digits.proofs.Scan.{part-rest, sum-parts}
+use Rattle.digits.proofs.Scan.{sum-parts}
 use Rattle.digits.proofs.sum.Statement.{statement}
 use Rattle.digits.proofs.sum.Tie as tie
 

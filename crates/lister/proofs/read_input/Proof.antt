@@ -1,5 +1,5 @@
 -- `lister::read_input` is safe and ends, and its count is within the room: each turn but the last reads a byte at least. Assumes nothing.
-use Prim.Native.Nat.{ℕ, _≤_, _-_}
+use Prim.Native.Nat.{_≤_, _-_}
 use mathlib.Core.Path.{_≡_}
 use native.Mathlib.Omega.{arith}
 use lib.ListN.{length}

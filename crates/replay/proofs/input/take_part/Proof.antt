@@ -1,8 +1,7 @@
 -- `replay::input::take_part` is safe and ends. Assumes nothing.
-use Prim.Native.Nat.{ℕ, _≤_, _-_}
-use mathlib.Core.Path.{_≡_}
+use Prim.Native.Nat.{_-_}
 use native.Mathlib.Omega.{arith}
-use lib.ListN.{length, length-take, length-drop}
+use lib.ListN.{length-take}
 use borrow.Author.Needs.{needs}
 use Rattle.replay.proofs.input.take_part.Statement.{statement}
 use Rattle.replay.proofs.input.take_part.Tie as tie

@@ -3,11 +3,14 @@ use Prim.Native.Nat.{_*_, _-_}
 use mathlib.Core.Path.{ap, _∙_}
 use native.Mathlib.Omega.{arith}
 use denote.Ref.{now}
+use lib.ListN.{length}
 use borrow.Author.Needs.{needs}
 use borrow.Author.Tests.{eq-eqb, ne-eqb}
 use Rattle.rules.specs.Store.{soundBlock, blockLength}
+use Rattle.laws.proofs.Bytes.{part-length}
+use Rattle.digits.proofs.Parts.{part-to}
 use Rattle.pool.specs.Blocks.{monthOf}
-use Rattle.schedule.proofs.StoreLaws.{place-free, place-used, part-length, part-of}
+use Rattle.schedule.proofs.StoreLaws.{place-free, place-used}
 use Rattle.schedule.proofs.sound.place_holds.Statement.{statement}
 use Rattle.schedule.proofs.sound.place_holds.Tie as tie
 
@@ -46,13 +49,14 @@ part-block-holds-end c = search needs
 block-holds-requires : tie.Need-block-holds-requires
 block-holds-requires c κs =
     let s = c .before .before .before .before .before in
-    part-length (now (s .args .store)) (s .args .b * blockLength) blockLength (omega (arith, s .pre))
+    ap length (part-to (now (s .args .store)) (s .args .b * blockLength) blockLength)
+    ∙ part-length (now (s .args .store)) (s .args .b * blockLength) blockLength (omega (arith, s .pre))
 
 returns-2 : tie.Need-returns-2
 returns-2 c =
     let a = c .before .before .before .before .before .before .args in
     c .block-holds .ensures
-    ∙ ap (soundBlock (monthOf (a .pool) (a .b))) (part-of (now (a .store)) (a .b * blockLength) blockLength)
+    ∙ ap (soundBlock (monthOf (a .pool) (a .b))) (part-to (now (a .store)) (a .b * blockLength) blockLength)
     ∙ place-used (a .pool) (now (a .store)) (a .b) (ne-eqb _ _ (c .before .before .before .if1 .left))
 
 pub place-holds-spec : {M : Type 1} → statement M

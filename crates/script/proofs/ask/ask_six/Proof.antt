@@ -1,5 +1,5 @@
 -- `script::ask::ask_six` meets its contract: a return for each word. Assumes nothing.
-use mathlib.Core.Path.{_∙_, refl, sym, ap}
+use mathlib.Core.Path.{_∙_, refl, sym}
 use borrow.Author.Needs.{needs}
 use Rattle.script.specs.Ask.{askSix}
 use Rattle.script.proofs.ask.ask_six.Statement.{statement}

@@ -1,5 +1,5 @@
 -- `script::ask::failure_ask` meets its contract: a return for each word. Assumes nothing.
-use mathlib.Core.Path.{_∙_, refl, sym, ap}
+use mathlib.Core.Path.{_∙_, refl, sym}
 use borrow.Author.Needs.{needs}
 use Rattle.script.proofs.ask.failure_ask.Statement.{statement}
 use Rattle.script.proofs.ask.failure_ask.Tie as tie

@@ -1,13 +1,12 @@
 -- `script_fields::field::either` meets its contract: a marked word, an empty one, and a plain one. Assumes nothing.
 use mathlib.Core.Path.{sym, _∙_, ap}
-use mathlib.Core.List.{List, map}
-use Prim.Native.Nat.{ℕ}
+use mathlib.Core.List.{map}
 use native.Mathlib.Omega.{arith}
 use borrow.Author.Needs.{needs}
 use lib.ListN.{length-map}
 use denote.Ref.{now}
-use Rattle.digits.proofs.Scan.{part-rest}
-use Rattle.script_fields.specs.Field.{plainByte, hexField, fieldIn, bufferWith}
+use Rattle.laws.proofs.Bytes.{part-rest}
+use Rattle.script_fields.specs.Field.{plainByte, hexField}
 use Rattle.script_fields.proofs.FieldLaws.{says-none, says-same, says-long, says-put, marked-long, is-hex, no-word, is-plain}
 use Rattle.script_fields.proofs.field.either.Statement.{statement}
 use Rattle.script_fields.proofs.field.either.Tie as tie

@@ -1,7 +1,6 @@
 -- `script_fields::field::hex_of` meets its contract. Assumes nothing.
 use mathlib.Core.Path.{sym, _∙_, refl}
-use mathlib.Core.List.{List, []}
-use Prim.Native.Nat.{ℕ}
+use mathlib.Core.List.{[]}
 use native.Mathlib.Omega.{arith}
 use borrow.Author.Needs.{needs}
 use denote.Ref.{now}

@@ -1,7 +1,7 @@
 -- `script_fields::field::put_plain` meets its contract. The loop's invariant: i bytes are written. Assumes nothing.
-use Prim.Native.Nat.{ℕ, _-_, _+_, _≤_, _<_}
-use mathlib.Core.Path.{_≡_, _∙_, refl, sym, ap}
-use mathlib.Core.List.{List, map}
+use Prim.Native.Nat.{ℕ, _-_, _≤_, _<_}
+use mathlib.Core.Path.{_≡_, _∙_, refl, ap}
+use mathlib.Core.List.{map}
 use native.Mathlib.Omega.{arith}
 use borrow.Author.Needs.{needs}
 use lib.ListN.{length, length-set, length-map}

@@ -1,8 +1,6 @@
 -- `script_fields::hex::is_hex` meets its contract: the flag and the pairs to come give the answer. Assumes nothing.
-use Prim.Native.Nat.{ℕ, _≤_}
 use mathlib.Core.Path.{_≡_, _∙_, sym, refl}
 use mathlib.Core.Bool.{_&&_}
-use native.Mathlib.Omega.{arith}
 use borrow.Author.Needs.{needs}
 use lib.ListN.{length}
 use Rattle.script_fields.specs.Hex.{allHex}

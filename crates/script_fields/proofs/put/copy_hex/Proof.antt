@@ -1,8 +1,7 @@
 -- `script_fields::put::copy_hex` meets its contract. The loop's invariant: the digits of i bytes are written. Assumes nothing.
-use Prim.Native.Nat.{ℕ, _*_, _/_, _%_, _-_, _+_, _≤_, _<_}
+use Prim.Native.Nat.{ℕ, _*_, _-_, _+_, _≤_, _<_}
 use mathlib.Core.Path.{_≡_, _∙_, refl, sym, ap}
 use native.Mathlib.Omega.{arith}
-use borrow.Author.Needs.{needs}
 use lib.ListN.{length, getD, length-set}
 use lib.Seq.{paste, paste-zero}
 use denote.Ref.{now}

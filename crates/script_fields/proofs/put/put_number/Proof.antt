@@ -1,7 +1,5 @@
 -- `script_fields::put::put_number` meets its contract: the bytes of the number's line are its numeral. Assumes nothing.
-use Prim.Native.Nat.{ℕ}
 use mathlib.Core.Path.{_∙_, sym, ap}
-use mathlib.Core.List.{List}
 use borrow.Author.Needs.{needs}
 use lib.Seq.{length-take-le}
 use denote.Ref.{now}

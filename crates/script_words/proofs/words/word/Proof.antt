@@ -1,10 +1,8 @@
 -- `script_words::words::word` meets its contract: a word fewer of what is left of the line. Assumes nothing.
-use Prim.Native.Nat.{ℕ, _≤_, _-_, _+_}
+use Prim.Native.Nat.{_-_}
 use mathlib.Core.Path.{_≡_, _∙_, sym, refl}
-use native.Mathlib.Omega.{arith}
 use borrow.Author.Needs.{needs}
 use denote.Ref.{now}
-use lib.ListN.{length, drop}
 use lib.Seq.{length-take-le}
 use Rattle.script_words.specs.Words.{wordAt}
 use Rattle.script_words.proofs.WordLaws.{after-part, word-more, word-ends}
