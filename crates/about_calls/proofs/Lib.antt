@@ -12,6 +12,7 @@ pub mod Ticks
 pub mod Acceptance
 pub mod Full
 pub mod Refusals
+pub mod OwnRequest
 pub mod Unsound
 pub mod Installed
 pub mod Sentences

@@ -29,7 +29,7 @@ use Rattle.about_files.proofs.Table.{rising, answerBy, answer-refuses, 
 -- ---- an output that rows decide
 
 -- rows judged one after the other, and the output where none applies
-abbrev judged : List Row → List ℕ → Output
+abbrev pub judged : List Row → List ℕ → Output
 judged [] b = bytes b
 judged (r ∷ rs) b = need (not (r .applies)) (refuse (r .cause)) (judged rs b)
 
@@ -48,10 +48,10 @@ judged-first (r ∷ rs) b = go (r .applies) (judged-first rs b)
     go false e = e
 
 module _ (rows : List Row) (b : List ℕ) where
-  judged-refuses : rising rows ≡ true → (c : Cause) → (judged rows b ≡ refuse c) ↔ Lowest rows c
+  pub judged-refuses : rising rows ≡ true → (c : Cause) → (judged rows b ≡ refuse c) ↔ Lowest rows c
   judged-refuses rise c = rw (judged-first rows b) (answer-refuses refuse (bytes b) causeOf (λ d. refl) refl rows rise c)
 
-  judged-writes : (d : List ℕ) → (judged rows b ≡ bytes d) ↔ (((c : Cause) → appliesIn rows c ≡ false) × (d ≡ b))
+  pub judged-writes : (d : List ℕ) → (judged rows b ≡ bytes d) ↔ (((c : Cause) → appliesIn rows c ≡ false) × (d ≡ b))
   judged-writes d = rw (judged-first rows b) (go (firstOf rows) (answer-given refuse (bytes b) causeOf (λ c. refl) refl rows))
     where
       go : (o : Option Cause) → (answerBy refuse (bytes b) o ≡ bytes b) ↔ ((c : Cause) → appliesIn rows c ≡ false)
@@ -67,7 +67,7 @@ above-is b a = go (leb a b) refl
     go true e = le-ltb b a (leb-true a b e)
     go false e = lt-ltb b a (leb-false a b e)
 
-room-is : (b : List ℕ) (room : ℕ) → not (roomBreaks b room) ≡ leb (length b) room
+pub room-is : (b : List ℕ) (room : ℕ) → not (roomBreaks b room) ≡ leb (length b) room
 room-is b room = ap not (above-is room (length b)) ∙ Bool·not-not (leb (length b) room)
 
 flag-law : (a p q : Bool) → not (not a && not (p || q)) ≡ (a || p || q)
