@@ -44,8 +44,11 @@ loop-again c =
     let l = c .before .before .loop in
     let a = c .before .before .before .args in
     let digits = now (a .digits) in
-    let long = length-map digits (λ (x : ℕ). x + 48) in
-    (omega arith, simp length-set (l .inv .1), put-step (now (a .out)) (toAscii digits) (a .at) (l .i) 48 (l .inv .2) (ascii-at digits (l .i)) (omega arith) (omega arith))
+    let long = length-map digits (λ (x : ℕ). x + 48) in (
+      omega arith,
+      simp length-set (l .inv .1),
+      put-step (now (a .out)) (toAscii digits) (a .at) (l .i) 48 (l .inv .2) (ascii-at digits (l .i)) (omega arith) (omega arith),
+    )
 
 same-length : tie.Need-same-length Inv-loop μ-loop
 same-length c = c .before .loop .inv .1
