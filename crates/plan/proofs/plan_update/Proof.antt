@@ -13,7 +13,9 @@ use Rattle.plan.proofs.plan_update.Tie as tie
 
 -- the start, and the first test
 abbrev start : tie.After-is-digits3 → tie.Start
-start c = c .before .before .before .before .before .before .before .before
+start c =
+    let counted = c .before .before .before in
+    counted .before .before .before .before .before
 
 abbrev flags : tie.After-is-digits3 → Bool
 flags c =
@@ -23,7 +25,10 @@ flags c =
 form-tested : (c : tie.After-is-digits3) (t : Bool) → flags c ≡ t
     → let a = start c .args in
     formFits (now (a .schedule)) (now (a .start)) (now (a .next)) (now (a .rates)) ≡ t
-form-tested c t e = cc (c .is-digits3 .ensures, c .before .is-digits2 .ensures, c .before .before .is-digits .ensures, c .before .before .before .most-rates .ensures)
+form-tested c t e =
+    let schedule = c .before in
+    let next = schedule .before in
+    cc (c .is-digits3 .ensures, schedule .is-digits2 .ensures, next .is-digits .ensures, next .before .most-rates .ensures)
 
 formed : (c : tie.Else1)
     → let a = start (c .before) .args in
