@@ -1,5 +1,5 @@
 -- `request::fill` meets its contract: six puts, one after another. Assumes nothing.
-use Rattle.request.proofs.Laws.{written}
+use Rattle.request.proofs.RequestLaws.{written}
 use borrow.Author.Needs.{needs}
 use Rattle.request.proofs.fill.Statement.{statement}
 use Rattle.request.proofs.fill.Tie as tie

@@ -5,7 +5,7 @@ use native.Mathlib.Omega.{arith}
 use lib.ListN.{length, length-set}
 use lib.Seq.{paste, paste-zero}
 use denote.Ref.{now}
-use Rattle.request.proofs.Laws.{put-step}
+use Rattle.request.proofs.RequestLaws.{put-step}
 use Rattle.request.proofs.put.Statement.{statement}
 use Rattle.request.proofs.put.Tie as tie
 

@@ -6,7 +6,7 @@ use lib.ListN.{length, length-set, length-map}
 use lib.Seq.{paste, paste-zero}
 use denote.Ref.{now}
 use Rattle.rules.specs.Digits.{toAscii}
-use Rattle.request.proofs.Laws.{put-step, digit-most, ascii-at}
+use Rattle.request.proofs.RequestLaws.{put-step, digit-most, ascii-at}
 use Rattle.request.proofs.put_digits.Statement.{statement}
 use Rattle.request.proofs.put_digits.Tie as tie
 

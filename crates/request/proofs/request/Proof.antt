@@ -6,7 +6,7 @@ use denote.Ref.{now}
 use borrow.Author.Tests.{not-true, not-false}
 use Rattle.rules.specs.Plant.{plantId, macAddress}
 use Rattle.rules.specs.Name.{anySegment}
-use Rattle.request.proofs.Laws.{no-plant, no-mac, no-segment, no-room, is-request, parts, request-length, answered, finished}
+use Rattle.request.proofs.RequestLaws.{no-plant, no-mac, no-segment, no-room, is-request, parts, request-length, answered, finished}
 use borrow.Author.Needs.{needs}
 use Rattle.request.proofs.request.Statement.{statement}
 use Rattle.request.proofs.request.Tie as tie

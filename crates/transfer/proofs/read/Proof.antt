@@ -7,7 +7,7 @@ use Rattle.rules.specs.Plant.{plantId}
 use Rattle.rules.specs.Reading.{readingOf}
 use Rattle.transfer.specs.Under.{underName}
 use Rattle.name.proofs.Laws.{read-broken, read-named}
-use Rattle.transfer.proofs.Laws.{no-name, under-read}
+use Rattle.transfer.proofs.Under.{no-name, under-read}
 use borrow.Author.Needs.{needs}
 use Rattle.transfer.proofs.read.Statement.{statement}
 use Rattle.transfer.proofs.read.Tie as tie

@@ -1,7 +1,7 @@
 use mathlib.Core.Path.{sym, _∙_}
 use mathlib.Core.Option.{some}
 use Rattle.name.proofs.Laws.{read-broken, read-named}
-use Rattle.transfer.proofs.Laws.{no-name, plant-read}
+use Rattle.transfer.proofs.Under.{no-name, plant-read}
 use borrow.Author.Needs.{needs}
 use Rattle.transfer.proofs.read_for.Statement.{statement}
 use Rattle.transfer.proofs.read_for.Tie as tie

@@ -1,6 +1,6 @@
 use mathlib.Core.Path.{sym, _∙_}
 use Rattle.name.proofs.Laws.{read-broken, read-named}
-use Rattle.transfer.proofs.Laws.{no-name-taken, plant-read, not-taken, taken}
+use Rattle.transfer.proofs.Under.{no-name-taken, plant-read, not-taken, taken}
 use borrow.Author.Needs.{needs}
 use Rattle.transfer.proofs.read_to_take.Statement.{statement}
 use Rattle.transfer.proofs.read_to_take.Tie as tie
