@@ -6,6 +6,7 @@ use mathlib.Core.Bool.{Bool, true, false, _&&_}
 use borrow.Author.Tests.{not-true, not-false}
 use lib.Dec.{leb}
 use lib.ListN.{length}
+use Rattle.layout.specs.Dates.{updateHolds}
 use Rattle.plan.proofs.Plans.{formFits, update-form, update-few, update-date, update-rate, update-plan}
 use borrow.Author.Needs.{needs}
 use Rattle.plan.proofs.plan_update.Statement.{statement}
@@ -34,6 +35,12 @@ formed : (c : tie.Else1)
     → let a = start (c .before) .args in
     formFits (now (a .schedule)) (now (a .start)) (now (a .next)) (now (a .rates)) ≡ true
 formed c = form-tested (c .before) true (not-false (flags (c .before)) (c .if1 .left))
+
+-- the second
+dated : (c : tie.Else2)
+    → let a = start (c .before .before .before) .args in
+    updateHolds (now (a .start)) (length (now (a .rates))) (now (a .next)) ≡ true
+dated c = sym (c .before .is-update .ensures) ∙ not-false _ (c .if2 .left)
 
 most-rates-requires : tie.Need-most-rates-requires
 most-rates-requires c κs = search needs
@@ -70,13 +77,13 @@ all-at-most-requires c κs = search needs
 returns-3 : tie.Need-returns-3
 returns-3 c =
     let d = c .before .before in
-    update-rate _ _ _ _ (formed (d .before .before)) (sym (d .before .is-update .ensures) ∙ not-false _ (d .if2 .left))
+    update-rate _ _ _ _ (formed (d .before .before)) (dated d)
     (sym (c .before .all-at-most .ensures) ∙ not-true _ (c .if3 .taken))
 
 returns-4 : tie.Need-returns-4
 returns-4 c =
     let d = c .before .before in
-    update-plan _ _ _ _ (formed (d .before .before)) (sym (d .before .is-update .ensures) ∙ not-false _ (d .if2 .left))
+    update-plan _ _ _ _ (formed (d .before .before)) (dated d)
     (sym (c .before .all-at-most .ensures) ∙ not-false _ (c .if3 .left))
 
 pub plan-update-spec : {M : Type 1} → statement M
