@@ -12,22 +12,22 @@ use Rattle.request.proofs.request.Statement.{statement}
 use Rattle.request.proofs.request.Tie as tie
 
 -- where the call began, from each test that it has passed
-abbrev start : tie.Else1 → tie.Start
-start c = c .before .before .before .before .before .before
+abbrev start₁ : tie.Else1 → tie.Start
+start₁ c = c .before .before .before .before .before .before
 
-abbrev start-2 : tie.Else2 → tie.Start
-start-2 c = start (c .before .before)
+abbrev start₂ : tie.Else2 → tie.Start
+start₂ c = start₁ (c .before .before)
 
-abbrev start-3 : tie.Else3 → tie.Start
-start-3 c = start-2 (c .before .before)
+abbrev start₃ : tie.Else3 → tie.Start
+start₃ c = start₂ (c .before .before)
 
-plant : (c : tie.Else1) → plantId (now (start c .args .id)) ≡ true
+plant : (c : tie.Else1) → plantId (now (start₁ c .args .id)) ≡ true
 plant c = sym (c .before .is-plant-id .ensures) ∙ not-false _ (c .if1 .left)
 
-mac : (c : tie.Else2) → macAddress (now (start-2 c .args .mac)) ≡ true
+mac : (c : tie.Else2) → macAddress (now (start₂ c .args .mac)) ≡ true
 mac c = sym (c .before .is-mac-address .ensures) ∙ not-false _ (c .if2 .left)
 
-segment : (c : tie.Else3) → anySegment (now (start-3 c .args .segment)) ≡ true
+segment : (c : tie.Else3) → anySegment (now (start₃ c .args .segment)) ≡ true
 segment c = sym (c .before .is-segment .ensures) ∙ not-false _ (c .if3 .left)
 
 is-plant-id-requires : tie.Need-is-plant-id-requires
@@ -44,7 +44,7 @@ is-mac-address-requires c κs = search needs
 returns-2 : tie.Need-returns-2
 returns-2 c =
     let id-held = c .before .before in
-    let a = start id-held .args in
+    let a = start₁ id-held .args in
     let mac-fails = sym (c .before .is-mac-address .ensures) ∙ not-true _ (c .if2 .taken) in
     answered (now (a .out)) (no-mac (now (a .id)) (now (a .mac)) _ _ (plant id-held) mac-fails)
 
@@ -55,7 +55,7 @@ returns-3 : tie.Need-returns-3
 returns-3 c =
     let mac-held = c .before .before in
     let id-held = mac-held .before .before in
-    let a = start id-held .args in
+    let a = start₁ id-held .args in
     let segment-fails = sym (c .before .is-segment .ensures) ∙ not-true _ (c .if3 .taken) in
     answered (now (a .out)) (no-segment (now (a .id)) (now (a .mac)) (now (a .segment)) _ (plant id-held) (mac mac-held) segment-fails)
 
@@ -64,7 +64,7 @@ returns-4 c =
     let segment-held = c .before in
     let mac-held = segment-held .before .before in
     let id-held = mac-held .before .before in
-    let a = start id-held .args in
+    let a = start₁ id-held .args in
     answered (now (a .out))
     (no-room (now (a .id)) (now (a .mac)) (now (a .segment)) _ (plant id-held) (mac mac-held) (segment segment-held) (c .if4 .taken))
 
@@ -84,7 +84,7 @@ returns-5 c =
     let segment-held = filled .before .before .before in
     let mac-held = segment-held .before .before in
     let id-held = mac-held .before .before in
-    let a = start id-held .args in
+    let a = start₁ id-held .args in
     let i = plant id-held in
     let m = mac mac-held in
     let s = segment segment-held in

@@ -56,8 +56,12 @@ time-read c =
     }
 
 day-test : (c : tie.After-is-time) →
-    (dayExists (12 * (year (month-of c) - 2000) + (month-of c .pair3 .result - 1)) (c .before .before .before .before .before .pair4 .result)
-    && timeExists (c .before .before .before .before .pair5 .result) (c .before .before .before .pair6 .result) (c .before .before .pair7 .result))
+    let second = c .before .before in
+    let minute = second .before in
+    let hour = minute .before in
+    let day = hour .before in
+    (dayExists (12 * (year (month-of c) - 2000) + (month-of c .pair3 .result - 1)) (day .pair4 .result)
+    && timeExists (hour .pair5 .result) (minute .pair6 .result) (second .pair7 .result))
     ≡ (c .before .is-day .result && c .is-time .result)
 day-test c = ap₂ (λ (a : Bool) (b : Bool). a && b) (sym (c .before .is-day .ensures)) (sym (c .is-time .ensures))
 

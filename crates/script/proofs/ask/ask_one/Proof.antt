@@ -24,7 +24,7 @@ not-command : (c : tie.Else3) → sameBytes (call (c .before .before .before .be
 not-command c = sym (c .before .same3 .ensures) ∙ c .if3 .left
 
 not-free : (c : tie.Else4) →
-    let due = c .before .before .before .before .before .before in sameBytes (call (due .before .before .before)) freeWord ≡ false
+    let past-due = c .before .before .before .before .before .before in sameBytes (call (past-due .before .before .before)) freeWord ≡ false
 not-free c = sym (c .before .same4 .ensures) ∙ c .if4 .left
 
 slice-aggregate-same : tie.Need-slice-aggregate-same
@@ -47,8 +47,8 @@ same-requires-2 c κs = search needs
 returns-2 : tie.Need-returns-2
 unfolding askOne
 returns-2 c =
-    let lost = c .before .before .before in
-    rw (not-lost lost, sym (c .before .same2 .ensures) ∙ c .if2 .taken) refl
+    let past-lost = c .before .before .before in
+    rw (not-lost past-lost, sym (c .before .same2 .ensures) ∙ c .if2 .taken) refl
 
 slice-aggregate-same-3 : tie.Need-slice-aggregate-same-3
 slice-aggregate-same-3 c = search needs
@@ -59,9 +59,9 @@ same-requires-3 c κs = search needs
 returns-3 : tie.Need-returns-3
 unfolding askOne
 returns-3 c =
-    let due = c .before .before .before in
-    let lost = due .before .before .before in
-    rw (not-lost lost, not-due due, sym (c .before .same3 .ensures) ∙ c .if3 .taken) refl
+    let past-due = c .before .before .before in
+    let past-lost = past-due .before .before .before in
+    rw (not-lost past-lost, not-due past-due, sym (c .before .same3 .ensures) ∙ c .if3 .taken) refl
 
 slice-aggregate-same-4 : tie.Need-slice-aggregate-same-4
 slice-aggregate-same-4 c = search needs
@@ -72,10 +72,10 @@ same-requires-4 c κs = search needs
 returns-4 : tie.Need-returns-4
 unfolding askOne
 returns-4 c =
-    let command = c .before .before .before in
-    let due = command .before .before .before in
-    let lost = due .before .before .before in
-    rw (not-lost lost, not-due due, not-command command, sym (c .before .same4 .ensures) ∙ c .if4 .taken) refl
+    let past-command = c .before .before .before in
+    let past-due = past-command .before .before .before in
+    let past-lost = past-due .before .before .before in
+    rw (not-lost past-lost, not-due past-due, not-command past-command, sym (c .before .same4 .ensures) ∙ c .if4 .taken) refl
 
 slice-aggregate-same-5 : tie.Need-slice-aggregate-same-5
 slice-aggregate-same-5 c = search needs
@@ -86,20 +86,20 @@ same-requires-5 c κs = search needs
 returns-5 : tie.Need-returns-5
 unfolding askOne
 returns-5 c =
-    let free = c .before .before .before in
-    let command = free .before .before .before in
-    let due = command .before .before .before in
-    let lost = due .before .before .before in
-    rw (not-lost lost, not-due due, not-command command, not-free free, sym (c .before .same5 .ensures) ∙ c .if5 .taken) refl
+    let past-free = c .before .before .before in
+    let past-command = past-free .before .before .before in
+    let past-due = past-command .before .before .before in
+    let past-lost = past-due .before .before .before in
+    rw (not-lost past-lost, not-due past-due, not-command past-command, not-free past-free, sym (c .before .same5 .ensures) ∙ c .if5 .taken) refl
 
 returns-6 : tie.Need-returns-6
 unfolding askOne
 returns-6 c =
-    let free = c .before .before .before in
-    let command = free .before .before .before in
-    let due = command .before .before .before in
-    let lost = due .before .before .before in
-    rw (not-lost lost, not-due due, not-command command, not-free free, sym (c .before .same5 .ensures) ∙ c .if5 .left) refl
+    let past-free = c .before .before .before in
+    let past-command = past-free .before .before .before in
+    let past-due = past-command .before .before .before in
+    let past-lost = past-due .before .before .before in
+    rw (not-lost past-lost, not-due past-due, not-command past-command, not-free past-free, sym (c .before .same5 .ensures) ∙ c .if5 .left) refl
 
 pub ask-one-spec : {M : Type 1} → statement M
 ask-one-spec =

@@ -55,8 +55,8 @@ same-requires-2 c κs = search needs
 returns-2 : tie.Need-returns-2
 unfolding askThree
 returns-2 c =
-    let store = c .before .before .before in
-    rw (not-store store, sym (c .before .same2 .ensures) ∙ c .if2 .taken) refl
+    let past-store = c .before .before .before in
+    rw (not-store past-store, sym (c .before .same2 .ensures) ∙ c .if2 .taken) refl
 
 slice-aggregate-same-3 : tie.Need-slice-aggregate-same-3
 slice-aggregate-same-3 c = search needs
@@ -74,9 +74,9 @@ returns-3 : tie.Need-returns-3
 unfolding askThree
 returns-3 c =
     let taken = c .before .before in
-    let take = taken .before .before .before in
-    let store = take .before .before .before in
-    rw (not-store store, not-take take, sym (taken .before .same3 .ensures) ∙ taken .if3 .taken) (c .failure-ask .ensures ∙ cc)
+    let past-take = taken .before .before .before in
+    let past-store = past-take .before .before .before in
+    rw (not-store past-store, not-take past-take, sym (taken .before .same3 .ensures) ∙ taken .if3 .taken) (c .failure-ask .ensures ∙ cc)
 
 slice-aggregate-same-4 : tie.Need-slice-aggregate-same-4
 slice-aggregate-same-4 c = search needs
@@ -97,19 +97,19 @@ returns-4 : tie.Need-returns-4
 unfolding askThree
 returns-4 c =
     let taken = c .before .before .before in
-    let failure = taken .before .before .before in
-    let take = failure .before .before .before in
-    let store = take .before .before .before in
-    rw (not-store store, not-take take, not-failure failure, sym (taken .before .same4 .ensures) ∙ taken .if4 .taken)
+    let past-failure = taken .before .before .before in
+    let past-take = past-failure .before .before .before in
+    let past-store = past-take .before .before .before in
+    rw (not-store past-store, not-take past-take, not-failure past-failure, sym (taken .before .same4 .ensures) ∙ taken .if4 .taken)
     (c .byte-ask .ensures ∙ cc)
 
 returns-5 : tie.Need-returns-5
 unfolding askThree
 returns-5 c =
-    let failure = c .before .before .before in
-    let take = failure .before .before .before in
-    let store = take .before .before .before in
-    rw (not-store store, not-take take, not-failure failure, sym (c .before .same4 .ensures) ∙ c .if4 .left) refl
+    let past-failure = c .before .before .before in
+    let past-take = past-failure .before .before .before in
+    let past-store = past-take .before .before .before in
+    rw (not-store past-store, not-take past-take, not-failure past-failure, sym (c .before .same4 .ensures) ∙ c .if4 .left) refl
 
 pub ask-three-spec : {M : Type 1} → statement M
 ask-three-spec =

@@ -57,8 +57,8 @@ returns-2 : tie.Need-returns-2
 unfolding askTwo
 returns-2 c =
     let taken = c .before .before in
-    let tick = taken .before .before .before in
-    rw (not-tick tick, sym (taken .before .same2 .ensures) ∙ taken .if2 .taken)
+    let past-tick = taken .before .before .before in
+    rw (not-tick past-tick, sym (taken .before .same2 .ensures) ∙ taken .if2 .taken)
     (c .ceiling-ask .ensures ∙ ap ceilingAsk (c .before .number-of2 .ensures))
 
 slice-aggregate-same-3 : tie.Need-slice-aggregate-same-3
@@ -70,9 +70,9 @@ same-requires-3 c κs = search needs
 returns-3 : tie.Need-returns-3
 unfolding askTwo
 returns-3 c =
-    let ceiling = c .before .before .before in
-    let tick = ceiling .before .before .before in
-    rw (not-tick tick, not-ceiling ceiling, sym (c .before .same3 .ensures) ∙ c .if3 .taken) refl
+    let past-ceiling = c .before .before .before in
+    let past-tick = past-ceiling .before .before .before in
+    rw (not-tick past-tick, not-ceiling past-ceiling, sym (c .before .same3 .ensures) ∙ c .if3 .taken) refl
 
 slice-aggregate-same-4 : tie.Need-slice-aggregate-same-4
 slice-aggregate-same-4 c = search needs
@@ -90,19 +90,19 @@ returns-4 : tie.Need-returns-4
 unfolding askTwo
 returns-4 c =
     let taken = c .before .before in
-    let request = taken .before .before .before in
-    let ceiling = request .before .before .before in
-    let tick = ceiling .before .before .before in
-    rw (not-tick tick, not-ceiling ceiling, not-request request, sym (taken .before .same4 .ensures) ∙ taken .if4 .taken)
+    let past-request = taken .before .before .before in
+    let past-ceiling = past-request .before .before .before in
+    let past-tick = past-ceiling .before .before .before in
+    rw (not-tick past-tick, not-ceiling past-ceiling, not-request past-request, sym (taken .before .same4 .ensures) ∙ taken .if4 .taken)
     (c .block-ask .ensures ∙ ap blockAsk (c .before .number-of3 .ensures))
 
 returns-5 : tie.Need-returns-5
 unfolding askTwo
 returns-5 c =
-    let request = c .before .before .before in
-    let ceiling = request .before .before .before in
-    let tick = ceiling .before .before .before in
-    rw (not-tick tick, not-ceiling ceiling, not-request request, sym (c .before .same4 .ensures) ∙ c .if4 .left) refl
+    let past-request = c .before .before .before in
+    let past-ceiling = past-request .before .before .before in
+    let past-tick = past-ceiling .before .before .before in
+    rw (not-tick past-tick, not-ceiling past-ceiling, not-request past-request, sym (c .before .same4 .ensures) ∙ c .if4 .left) refl
 
 pub ask-two-spec : {M : Type 1} → statement M
 ask-two-spec =

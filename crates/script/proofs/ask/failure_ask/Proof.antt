@@ -38,13 +38,13 @@ status-ask-requires-2 c κs = search needs
 returns-2 : tie.Need-returns-2
 returns-2 c =
     let taken = c .before in
-    let update = taken .before .before .before in
-    rw (not-update update, sym (taken .before .same2 .ensures) ∙ taken .if2 .taken) (c .status-ask2 .ensures)
+    let past-update = taken .before .before .before in
+    rw (not-update past-update, sym (taken .before .same2 .ensures) ∙ taken .if2 .taken) (c .status-ask2 .ensures)
 
 returns-3 : tie.Need-returns-3
 returns-3 c =
-    let update = c .before .before .before in
-    rw (not-update update, sym (c .before .same2 .ensures) ∙ c .if2 .left) refl
+    let past-update = c .before .before .before in
+    rw (not-update past-update, sym (c .before .same2 .ensures) ∙ c .if2 .left) refl
 
 pub failure-ask-spec : {M : Type 1} → statement M
 failure-ask-spec =
