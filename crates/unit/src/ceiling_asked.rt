@@ -5,9 +5,9 @@ ghost use Rattle.unit.specs.Asked.{ceilingAsked};
 use crate::CeilingAsked;
 use crate::Clock;
 use crate::Unit;
+use ceiling::SlotCeiling;
 use rules::Cause;
 use rules::Ceiling;
-use schedule::StoredRate;
 
 // 'Slot not below 1,753,200'.
 const SLOT_COUNT: u64 = rules::SLOT_COUNT as u64;
@@ -31,12 +31,9 @@ impl Unit {
         if SLOT_COUNT <= slot {
             return Ceiling::Refused(Cause::Range);
         }
-        match schedule::rate_at(pool, store, slot as u32) {
-            StoredRate::Rate(rate) => Ceiling::Rated {
-                rate,
-                percent: plant.percent(rate),
-            },
-            StoredRate::NoRate => Ceiling::NoRate,
+        match ceiling::of_slot(plant, pool, store, slot as u32) {
+            SlotCeiling::Rated { rate, percent } => Ceiling::Rated { rate, percent },
+            SlotCeiling::NoRate => Ceiling::NoRate,
         }
     }
 
