@@ -148,11 +148,13 @@ module _ (w : Fields) (room : ℕ) where
   rest-is none e = no-rest (no-number e)
   rest-is (some F201) e =
       let a = number-is F201 e in
-      rest-with true (digitsFit F201 w) (monthsFit 13 w) (simp (a .is201, a .is202, a .is203)) (rw (a .is203) (two-law (digits 10 (w .schedule)) (digits 12 (w .start))))
+      rest-with true (digitsFit F201 w) (monthsFit 13 w) (simp (a .is201, a .is202, a .is203))
+      (rw (a .is203) (two-law (digits 10 (w .schedule)) (digits 12 (w .start))))
       (simp (a .is201, a .is202, a .is203) (first-law (monthsFit 13 w))) (ap (λ (o : Option Format). encodeBody (schedule (recordsFor o w))) e)
   rest-is (some F202) e =
       let a = number-is F202 e in
-      rest-with true (digitsFit F202 w) (monthsFit 1 w) (simp (a .is201, a .is202, a .is203)) (rw (a .is203) (two-law (digits 10 (w .schedule)) (digits 12 (w .start))))
+      rest-with true (digitsFit F202 w) (monthsFit 1 w) (simp (a .is201, a .is202, a .is203))
+      (rw (a .is203) (two-law (digits 10 (w .schedule)) (digits 12 (w .start))))
       (simp (a .is201, a .is202, a .is203) (second-law (monthsFit 1 w))) (ap (λ (o : Option Format). encodeBody (schedule (recordsFor o w))) e)
   rest-is (some F203) e =
       let a = number-is F203 e in

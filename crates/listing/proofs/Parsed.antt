@@ -36,9 +36,12 @@ record Fits (f : Format) (s : List ℕ) : Type 0 where
 front : (f : Format) (s : List ℕ) → recordShape f s ≡ true → Fits f s
 unfolding recordShape recordAt sizeOf
 front f s h =
-    let e = both (leb 53 (length s) && allDigits (part s 0 48) && allDigits (part s 48 5) && leb (ratesOf s) (mostRates f) && leb (sizeOf f s) (length s)) (allDigits (part s (53 + ratesOf s) (tailDigits f))) h .0 in
-    let d = both (leb 53 (length s) && allDigits (part s 0 48) && allDigits (part s 48 5) && leb (ratesOf s) (mostRates f)) (leb (sizeOf f s) (length s)) e in
-    let m : ratesOf s ≤ mostRates f = leb-true (ratesOf s) (mostRates f) (both (leb 53 (length s) && allDigits (part s 0 48) && allDigits (part s 48 5)) (leb (ratesOf s) (mostRates f)) (d .0) .1) in
+    let start = leb 53 (length s) && allDigits (part s 0 48) && allDigits (part s 48 5) in
+    let few = leb (ratesOf s) (mostRates f) in
+    let room = leb (sizeOf f s) (length s) in
+    let tail = allDigits (part s (53 + ratesOf s) (tailDigits f)) in
+    let d = both (start && few) room (both (start && few && room) tail h .0) in
+    let m : ratesOf s ≤ mostRates f = leb-true (ratesOf s) (mostRates f) (both start few (d .0) .1) in
     record {
       few = rw length-take (omega arith);
       size = omega arith;
@@ -80,7 +83,9 @@ unfolding parseRecords
 parsed f zero s rs e = parsed-none f s rs e
 parsed f (suc k) s rs e = go (recordShape f s) refl (λ rest q. parsed f k (drop (sizeOf f s) s) rest q)
   where
-    go : (b : Bool) → recordShape f s ≡ b → ((rest : List Record) → parseRecords f k (drop (sizeOf f s) s) ≡ some rest → Parsed f k (drop (sizeOf f s) s) rest) → Parsed f (suc k) s rs
+    go : (b : Bool) → recordShape f s ≡ b
+        → ((rest : List Record) → parseRecords f k (drop (sizeOf f s) s) ≡ some rest → Parsed f k (drop (sizeOf f s) s) rest)
+        → Parsed f (suc k) s rs
     go true h ih = parsed-more f k s rs (front f s h) (parseRecords f k (drop (sizeOf f s) s)) ih (rw h at e)
     go false h ih = nothing (rw h at e)
 

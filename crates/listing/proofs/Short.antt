@@ -36,7 +36,8 @@ unfolding monthsFrom wholeMonth totalRates
 months-few m [] h = omega arith
 months-few m (r ∷ rs) h =
     let a = both (wholeMonth m r) (monthsFrom (suc m) rs) h in
-    let n = both (exists (wholeMinute (r .start)) && eqb (monthAt (r .start)) m && monthBegins (r .start)) (eqb (length (r .rates)) (slotsOfMonth m)) (a .0) .1 in
+    let dated = exists (wholeMinute (r .start)) && eqb (monthAt (r .start)) m && monthBegins (r .start) in
+    let n = both dated (eqb (length (r .rates)) (slotsOfMonth m)) (a .0) .1 in
     let e : length (r .rates) ≡ slotsOfMonth m = eqb-true (length (r .rates)) (slotsOfMonth m) n in
     rw suc-mul (omega (arith, e, days-most m, months-few (suc m) rs (a .1)))
 

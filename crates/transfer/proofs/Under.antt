@@ -55,10 +55,14 @@ module _ (name body : List ℕ) (f : Fields) (read : Read (parseName name) f) wh
   n = read .name
 
   below : (b : Option Body) → readingOf (withBody (nameOf (f .format) (f .segment) (plantDigits name)) b) ≡ readingOf (withBody n b)
-  below b = under n (f .format) (f .segment) (plantDigits name) b (read .format) (read .segment) (plant-is name n (read .found)) (parsed name n (read .found) .segment)
+  below b =
+      under n (f .format) (f .segment) (plantDigits name) b (read .format) (read .segment)
+      (plant-is name n (read .found))
+      (parsed name n (read .found) .segment)
 
   -- the stages from the body on, for a name whose ID fits
-  named : (plant : Option (List ℕ)) → idFits plant (n .plant) ≡ true → readingOf (readFile plant name body) ≡ readingOf (withBody n (parseBody (n .format) body))
+  named : (plant : Option (List ℕ)) → idFits plant (n .plant) ≡ true
+      → readingOf (readFile plant name body) ≡ readingOf (withBody n (parseBody (n .format) body))
   unfolding readFile
   named plant e = rw (read .found, e)
 
