@@ -17,7 +17,4 @@ pub mod Installed
 pub mod Sentences
 pub mod Moves
 pub mod Apart
-pub mod Lists
-pub mod Exports
-pub mod FromC
-pub mod ApartFromC
+pub mod AnyCall

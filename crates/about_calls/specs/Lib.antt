@@ -6,7 +6,4 @@ pub mod Refusals
 pub mod Installed
 pub mod Sentences
 pub mod Apart
-pub mod Lists
-pub mod Exports
-pub mod FromC
-pub mod ApartFromC
+pub mod AnyCall

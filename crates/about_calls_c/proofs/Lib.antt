@@ -1,0 +1,5 @@
+pub mod Unsound
+pub mod Lists
+pub mod Exports
+pub mod FromC
+pub mod ApartFromC
