@@ -1,11 +1,11 @@
--- The contract of `taking::step` is the unit's step: where that contract is changed, this is refused. Assumes nothing.
+-- The contract of `calls::step` is the unit's step: where that contract is changed, this is refused. Assumes nothing.
 use Prim.Native.Nat.{ℕ}
 use mathlib.Core.Path.{ap₂, _∙_}
 use mathlib.Core.List.{List}
 use denote.Ref.{now}
-use Rattle.taking.specs.Stepping.{replyOf}
-use Rattle.taking.specs.declared.calls.Stepped.{Stepped}
-use Rattle.taking.proofs.StepLaws.{steps-agree}
+use Rattle.calls.specs.Stepping.{replyOf}
+use Rattle.calls.specs.declared.Stepped.{Stepped}
+use Rattle.calls.proofs.StepLaws.{steps-agree}
 use Rattle.about_calls.specs.AnyCall.{unitWith, StepSays}
 
 pub step-says : StepSays

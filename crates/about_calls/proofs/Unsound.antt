@@ -11,7 +11,7 @@ use Rattle.rules.specs.Causes.{Reply}
 use Rattle.rules.specs.Machine.{Call}
 use Rattle.rules.specs.declared.Cause.{Cause}
 use Rattle.unit.specs.Values.{isSound}
-use Rattle.taking.specs.Step.{State, step, replies, after}
+use Rattle.calls.specs.Step.{State, step, replies, after}
 use Rattle.about_calls.specs.Theorem.{lent, unsoundReply}
 use Rattle.about_calls.specs.Refusals.{callRows}
 use Rattle.about_calls.proofs.Refusals.{rows-same, step-refuses}

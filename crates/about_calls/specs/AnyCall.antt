@@ -1,17 +1,17 @@
--- Any call of the unit given as a value, as the program `replay` gives it: what the contract of `taking::step` says of its result is the step that the lists of
--- the theorem run. `Learnt` is the contract as a caller gets it: the `ensures` lines of crates/taking/src/calls.rt themselves, and no copy of them.
+-- Any call of the unit given as a value, as the program `replay` gives it: what the contract of `calls::step` says of its result is the step that the lists of
+-- the theorem run. `Learnt` is the contract as a caller gets it: the `ensures` lines of crates/calls/src/lib.rt themselves, and no copy of them.
 use Prim.Native.Nat.{ℕ}
 use mathlib.Core.Path.{_≡_}
 use mathlib.Core.List.{List}
 use denote.Ref.{now}
 use denote.Triple.Clauses.{Lasts, atExit}
 use Rattle.unit.specs.declared.Unit.{Unit}
-use Rattle.taking.specs.Step.{State, step}
-use Rattle.taking.specs.Stepping.{callOf, replyOf}
-use Rattle.taking.specs.declared.calls.Call.{Call}
-use Rattle.taking.specs.declared.calls.Stepped.{Stepped}
-use Rattle.taking.proofs.step as stepping
-use Rattle.taking.proofs.step.Reads as taking-step
+use Rattle.calls.specs.Step.{State, step}
+use Rattle.calls.specs.Stepping.{callOf, replyOf}
+use Rattle.calls.specs.declared.Call.{Call}
+use Rattle.calls.specs.declared.Stepped.{Stepped}
+use Rattle.calls.proofs.step as stepping
+use Rattle.calls.proofs.step.Reads as calls-step
 
 abbrev pub unitWith : Unit → List ℕ → State
 unitWith u store = record { unit = u; store = store }
@@ -20,8 +20,8 @@ unitWith u store = record { unit = u; store = store }
 -- value of the store that it is lent (w) as a caller sees it afterwards (e), these are the step's
 abbrev pub StepSays : Type 0
 StepSays =
-    ((κs : _) (a : _) → taking-step.Asked κs a)
+    ((κs : _) (a : _) → calls-step.Asked κs a)
     × ((κs : _) (u : Unit) (call : Call) (name body store : _) (r : Stepped) (w : Lasts stepping.ended κs (u, (call, (name, (body, (store, tt))))))
     → let e = atExit stepping.ended κs (u, (call, (name, (body, (store, tt))))) w in
-    taking-step.Learnt κs (u, (call, (name, (body, (store, tt))))) r e
+    calls-step.Learnt κs (u, (call, (name, (body, (store, tt))))) r e
     → (replyOf (r .reply), unitWith (r .unit) (now (e .1 .1 .1 .1 .0))) ≡ step (callOf call (now name) (now body)) (unitWith u (now store)))

@@ -8,7 +8,7 @@ use Rattle.rules.specs.Machine.{Machine, Call, freshMachine, step as machineSte
 use Rattle.plant.specs.Plant.{isKept, settingsOf, validPlant, plantOf}
 use Rattle.plant.specs.declared.Plant.{Plant}
 use Rattle.plant.proofs.Laws.{valid-facts, in-range-kept, accepted-values}
-use Rattle.taking.specs.Step.{State, step, after}
+use Rattle.calls.specs.Step.{State, step, after}
 use Rattle.unit.specs.declared.Unit.{Unit}
 use Rattle.c_structs.proofs.Handing.{unit-back}
 use Rattle.about_calls.specs.Theorem.{fresh, toldBy}

@@ -21,7 +21,7 @@ use Rattle.unit.specs.Values.{isSound}
 use Rattle.unit.specs.Rows.{lengthRow, unitRow, soundRow, clockRow, tickRow, statusRow}
 use Rattle.unit.specs.Calls.{ticked, lost, withFailure, doneBy, tickOf, lostOf, failureOf, dueOf, ceilingOf as ceilingAt, commandOf, freeOf}
 use Rattle.taking.specs.Taken.{taken, takeRows, takeOf, storeAfterTake}
-use Rattle.taking.specs.Step.{State, stepDone, step, replies, after}
+use Rattle.calls.specs.Step.{State, stepDone, step, replies, after}
 use Rattle.unit.specs.declared.Unit.{Unit}
 use Rattle.c_structs.specs.Held.{opened, shutOf, handed}
 use Rattle.c_structs.specs.Answers.{dueNumbers, ceilingNumbers, commandNumber, blocksNumber}

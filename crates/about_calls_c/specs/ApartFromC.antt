@@ -4,7 +4,7 @@ use mathlib.Core.Path.{_≡_}
 use mathlib.Core.List.{List}
 use Rattle.rules.specs.Plant.{Settings}
 use Rattle.rules.specs.Machine.{Machine, Call, freshMachine, step as machineStep, after as machineAfter}
-use Rattle.taking.specs.Step.{State}
+use Rattle.calls.specs.Step.{State}
 use Rattle.c_structs.specs.Held.{opened}
 use Rattle.about_calls.specs.Theorem.{toldBy}
 use Rattle.about_calls.specs.Apart.{Matched, Stays, Moved}

@@ -9,7 +9,7 @@ use Rattle.rules.specs.Writer.{refuse}
 use Rattle.rules.specs.declared.Cause.{Cause}
 use Rattle.plant.specs.Plant.{validPlant, plantOf}
 use Rattle.plant.specs.declared.Plant.{Plant}
-use Rattle.taking.specs.Step.{after}
+use Rattle.calls.specs.Step.{after}
 use Rattle.unit.specs.Values.{isSound}
 use Rattle.unit.specs.Request.{requestOf}
 use Rattle.c_structs.specs.Held.{opened}

@@ -1,4 +1,3 @@
 pub mod RecordLaws
 pub mod ReadLaws
 pub mod TakeLaws
-pub mod StepLaws
