@@ -18,7 +18,4 @@ pub mod Installed  -- from installing on: what it gives, and every list of calls
 pub mod Sentences  -- the latest rate, and what stays untouched
 pub mod Moves  -- which blocks a call gives and frees; the others stay; floor only rises
 pub mod Apart  -- the auditor's sentence, whole
-pub mod Lists  -- a list of calls from C is the unit's own
-pub mod Exports  -- the exported contracts are the steps that the theorem runs
-pub mod FromC  -- the theorem for C, from jag_install on
-pub mod ApartFromC  -- the auditor's sentence for C
+pub mod AnyCall  -- what `calls::step` returns is the step that the theorems run

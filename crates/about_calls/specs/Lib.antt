@@ -7,7 +7,4 @@ pub mod OwnRequest
 pub mod Installed
 pub mod Sentences
 pub mod Apart
-pub mod Lists
-pub mod Exports
-pub mod FromC
-pub mod ApartFromC
+pub mod AnyCall

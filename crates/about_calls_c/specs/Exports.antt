@@ -1,7 +1,7 @@
--- The code tied to the theorem: what the contract of each exported function that takes a unit says of its result is the step from C that the theorem runs, and
--- what a list from C begins with; and what the contract of `taking::step` says is the step that the unit's own lists run. `Learnt` is a function's contract as a
--- caller gets it: the `ensures` lines of crates/jagwelu/src/lib.rt and crates/taking/src/calls.rt themselves, and no copy of them. The exported functions on
--- files are in crates/about_bodies_c/specs/Exports.antt.
+-- The code tied to the theorem: what the contract of each exported function that takes or makes a unit says of its result. Those that a list from C calls say the step
+-- that the theorem runs, and `jag_install` what a list from C begins with; `jag_check` and `jag_request` stand beside the lists. `Learnt` is a function's contract as
+-- a caller gets it: the `ensures` lines of crates/jagwelu/src/lib.rt themselves, and no copy of them. The exported functions on files are in
+-- crates/about_bodies_c/specs/Exports.antt, the unit's own step in crates/about_calls/specs/AnyCall.antt.
 use Prim.Native.Nat.{ℕ}
 use mathlib.Core.Path.{_≡_}
 use mathlib.Core.List.{List}
@@ -12,11 +12,6 @@ use Rattle.rules.specs.Machine.{tick, clockLost, fileTaken, failure, due, ceili
 use Rattle.rules.specs.Writer.{writtenOf, bufferAfter}
 use Rattle.rules.specs.declared.Kind.{Kind}
 use Rattle.unit.specs.Request.{requestOf}
-use Rattle.unit.specs.declared.Unit.{Unit}
-use Rattle.taking.specs.Step.{State, step}
-use Rattle.taking.specs.Stepping.{callOf, replyOf}
-use Rattle.taking.specs.declared.calls.Call.{Call}
-use Rattle.taking.specs.declared.calls.Stepped.{Stepped}
 use Rattle.c_structs.specs.Held.{settingsIn, opened}
 use Rattle.c_structs.specs.Answers.{writtenNumbers}
 use Rattle.c_structs.specs.declared.structs.HeldSettings.{HeldSettings}
@@ -27,7 +22,7 @@ use Rattle.c_structs.specs.declared.answers.DueAnswer.{DueAnswer}
 use Rattle.c_structs.specs.declared.answers.CeilingAnswer.{CeilingAnswer}
 use Rattle.c_structs.specs.declared.answers.WrittenBytes.{WrittenBytes}
 use Rattle.jagwelu.specs.Check.{checkNumber}
-use Rattle.about_calls.specs.Lists.{HeldState, handedStep, dueMeans, ceilingMeans, commandMeans, blocksMeans, heldStep, heldInstall}
+use Rattle.about_calls_c.specs.Lists.{HeldState, handedStep, dueMeans, ceilingMeans, commandMeans, blocksMeans, heldStep, heldInstall}
 use Rattle.jagwelu.proofs.jag_install.Reads as jag-install
 use Rattle.jagwelu.proofs.jag_tick as ticking
 use Rattle.jagwelu.proofs.jag_tick.Reads as jag-tick
@@ -44,14 +39,9 @@ use Rattle.jagwelu.proofs.jag_free_blocks.Reads as jag-free-blocks
 use Rattle.jagwelu.proofs.jag_check.Reads as jag-check
 use Rattle.jagwelu.proofs.jag_request as requesting
 use Rattle.jagwelu.proofs.jag_request.Reads as jag-request
-use Rattle.taking.proofs.step as stepping
-use Rattle.taking.proofs.step.Reads as taking-step
 
 abbrev pub heldWith : HeldUnit → List ℕ → HeldState
 heldWith u store = record { unit = u; store = store }
-
-abbrev pub unitWith : Unit → List ℕ → State
-unitWith u store = record { unit = u; store = store }
 
 -- for all that a function is given and whatever it returns (r): where its contract holds of these, they are the step's. What is lent as `&mut` has some last
 -- value (w); e is what a caller sees of the parameters afterwards, the store among them: as it was, where it is lent as `&`
@@ -111,13 +101,3 @@ pub record EachAsks : Type 0 where
 
 abbrev pub ExportsAsk : Type 0
 ExportsAsk = EachAsks
-
--- any call of the unit given as a value, as the program `replay` gives it: what the contract of `taking::step` says is the step of the unit's own lists, and
--- it asks nothing
-abbrev pub StepSays : Type 0
-StepSays =
-    ((κs : _) (a : _) → taking-step.Asked κs a)
-    × ((κs : _) (u : Unit) (call : Call) (name body store : _) (r : Stepped) (w : Lasts stepping.ended κs (u, (call, (name, (body, (store, tt))))))
-    → let e = atExit stepping.ended κs (u, (call, (name, (body, (store, tt))))) w in
-    taking-step.Learnt κs (u, (call, (name, (body, (store, tt))))) r e
-    → (replyOf (r .reply), unitWith (r .unit) (now (e .1 .1 .1 .1 .0))) ≡ step (callOf call (now name) (now body)) (unitWith u (now store)))

@@ -3,10 +3,10 @@ use Prim.Native.Nat.{ℕ}
 use mathlib.Core.List.{List}
 use denote.Ref.{now}
 use Rattle.unit.specs.declared.Unit.{Unit}
-use Rattle.taking.proofs.StepLaws.{tick-step, lost-step, file-step, failure-step, due-step, ceiling-step, command-step, free-step}
+use Rattle.calls.proofs.StepLaws.{tick-step, lost-step, file-step, failure-step, due-step, ceiling-step, command-step, free-step}
 use borrow.Author.Needs.{needs}
-use Rattle.taking.proofs.calls.step.Statement.{statement}
-use Rattle.taking.proofs.calls.step.Tie as tie
+use Rattle.calls.proofs.step.Statement.{statement}
+use Rattle.calls.proofs.step.Tie as tie
 
 -- what the call was given
 abbrev unit : tie.After-slice-known → Unit

@@ -4,12 +4,12 @@ use mathlib.Core.Path.{_≡_}
 use mathlib.Core.List.{List}
 use Rattle.rules.specs.Plant.{Settings}
 use Rattle.rules.specs.Machine.{Machine, Call, freshMachine, step as machineStep, after as machineAfter}
-use Rattle.taking.specs.Step.{State}
+use Rattle.calls.specs.Step.{State}
 use Rattle.c_structs.specs.Held.{opened}
 use Rattle.about_calls.specs.Theorem.{toldBy}
 use Rattle.about_calls.specs.Apart.{Matched, Stays, Moved}
-use Rattle.about_calls.specs.Lists.{HeldState, heldInstall, heldStep, heldAfter}
-use Rattle.about_calls.specs.FromC.{newlyHeld}
+use Rattle.about_calls_c.specs.Lists.{HeldState, heldInstall, heldStep, heldAfter}
+use Rattle.about_calls_c.specs.FromC.{newlyHeld}
 
 -- the unit that a struct stands for, with the store
 abbrev pub openedState : HeldState → State

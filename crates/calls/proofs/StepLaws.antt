@@ -4,18 +4,18 @@ use mathlib.Core.Path.{_≡_, refl}
 use mathlib.Core.List.{List}
 use Rattle.rules.specs.declared.Kind.{Kind}
 use Rattle.unit.specs.Calls.{tickOf, lostOf, failureOf}
 use Rattle.taking.specs.Taken.{takeOf, storeAfterTake}
 use Rattle.unit.specs.Asked.{dueAsked, ceilingAsked, commandAsked, freeAsked}
-use Rattle.taking.specs.Step.{step}
-use Rattle.taking.specs.Stepping.{answered, dueReplied, ceilingReplied, commandReplied, freeReplied, steppedOf, storeOf, StepsAgree}
+use Rattle.calls.specs.Step.{step}
+use Rattle.calls.specs.Stepping.{answered, dueReplied, ceilingReplied, commandReplied, freeReplied, steppedOf, storeOf, StepsAgree}
 use Rattle.unit.specs.declared.Unit.{Unit}
 use Rattle.unit.specs.declared.Done.{Done}
 use Rattle.unit.specs.declared.DueAsked.{DueAsked}
 use Rattle.unit.specs.declared.CeilingAsked.{CeilingAsked}
 use Rattle.unit.specs.declared.CommandAsked.{CommandAsked}
 use Rattle.unit.specs.declared.FreeAsked.{FreeAsked}
-use Rattle.taking.specs.declared.calls.Call.{Call}
-use Rattle.taking.specs.declared.calls.Stepped.{Stepped}
+use Rattle.calls.specs.declared.Call.{Call}
+use Rattle.calls.specs.declared.Stepped.{Stepped}
 
 module _ (u : Unit) (store name body : List ℕ) where
   -- what the call returns, and the store after it

@@ -10,7 +10,7 @@ use Rattle.rules.specs.Plant.{Settings}
 use Rattle.rules.specs.Machine.{Call, tick, clockLost, fileTaken, failure, due, ceilingOf, command, freeBlocks}
 use Rattle.unit.specs.Calls.{tickOf, lostOf, failureOf, dueOf, ceilingOf as ceilingAt, commandOf, freeOf}
 use Rattle.taking.specs.Taken.{takeOf, storeAfterTake}
-use Rattle.taking.specs.Step.{State, replies, after}
+use Rattle.calls.specs.Step.{State, replies, after}
 use Rattle.unit.specs.Values.{installedUnit}
 use Rattle.c_structs.specs.Held.{opened, shutOf, handed, newly}
 use Rattle.c_structs.specs.Answers.{dueNumbers, ceilingNumbers, commandNumber, blocksNumber}

@@ -4,11 +4,11 @@ use crate::progress::Progress;
 use crate::shown;
 use crate::stores;
 use crate::stores::most_of;
+use calls::Call;
 use plant::GivenSettings;
 use rules::Answer;
 use script::Ask;
 use script_fields::Field;
-use taking::Call;
 use unit::Unit;
 
 // A call of the plain machine, through the unit's step.
@@ -22,7 +22,7 @@ fn step(
 ) -> Progress {
     let unit = was.unit;
     let lent = most_of(was.lent, store);
-    let stepped = taking::step(unit, call, name, body, &mut store[..lent]);
+    let stepped = calls::step(unit, call, name, body, &mut store[..lent]);
     let next = stepped.unit;
     let reply = stepped.reply;
     let progress = was.with_unit(next);

@@ -1,25 +1,25 @@
 -- The auditor's sentence for C: the unit's, and what C holds stands for the unit that the list leaves.
 use Prim.Native.Nat.{ℕ}
 use mathlib.Core.Path.{_≡_, sym, ap, _∙_, subst, subst₂}
-use mathlib.Core.List.{List, [], _∷_}
+use mathlib.Core.List.{[], _∷_}
 use mathlib.Core.Bool.{true}
 use lib.ListN.{length}
 use Rattle.rules.specs.Machine.{Machine, Call, freshMachine, step as machineStep, after as machineAfter}
 use Rattle.plant.specs.Plant.{isKept, settingsOf, validPlant, plantOf}
 use Rattle.plant.specs.declared.Plant.{Plant}
 use Rattle.plant.proofs.Laws.{valid-facts, in-range-kept, accepted-values}
-use Rattle.taking.specs.Step.{State, step, after}
+use Rattle.calls.specs.Step.{State, step, after}
 use Rattle.unit.specs.declared.Unit.{Unit}
 use Rattle.c_structs.proofs.Handing.{unit-back}
 use Rattle.about_calls.specs.Theorem.{fresh, toldBy}
 use Rattle.about_calls.specs.Apart.{Matched, Stays, Moved}
-use Rattle.about_calls.specs.Lists.{HeldState, shutState, heldStep, heldAfter}
-use Rattle.about_calls.specs.ApartFromC.{openedState, heldFrom, machineFrom, MatchedFromC}
+use Rattle.about_calls_c.specs.Lists.{HeldState, shutState, heldStep, heldAfter}
+use Rattle.about_calls_c.specs.ApartFromC.{openedState, heldFrom, machineFrom, MatchedFromC}
 use Rattle.about_calls.proofs.Follows.{Follows}
 use Rattle.about_calls.proofs.EveryList.{fresh-follows, call-step, list-follows}
-use Rattle.about_calls.proofs.Lists.{same-from-c}
-use Rattle.about_calls.proofs.FromC.{accepts, installed-from-c}
+use Rattle.about_calls_c.proofs.Lists.{same-from-c}
+use Rattle.about_calls_c.proofs.FromC.{accepts, installed-from-c}
 use Rattle.about_calls.proofs.Apart.{months-matched}
 
 -- a struct stands for the unit that it was made of, where its plant is the valid one that a machine was told
 opened-shut : (p : Plant) → validPlant p ≡ true → (n : ℕ) (s : State) (M : Machine) → Follows p n s M → openedState (shutState s) ≡ s

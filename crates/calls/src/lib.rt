@@ -1,6 +1,6 @@
 // One call of the unit given as a value, and its reply: what a list of calls is made of.
 ghost use mathlib.Core.Path.{_≡_};
-ghost use Rattle.taking.specs.Stepping.{answered, dueReplied, ceilingReplied, commandReplied, freeReplied, steppedOf, storeOf};
+ghost use Rattle.calls.specs.Stepping.{answered, dueReplied, ceilingReplied, commandReplied, freeReplied, steppedOf, storeOf};
 use rules::Answer;
 use rules::Ceiling;
 use rules::Command;
@@ -106,7 +106,7 @@ pub fn step(unit: Unit, call: Call, name: &[u8], body: &[u8], store: &mut [u8]) 
     match call {
         Call::Tick(t) => answered(unit.tick(t, store)),
         Call::ClockLost => answered(unit.clock_lost()),
-        Call::File => answered(crate::take::take_file(unit, name, body, store)),
+        Call::File => answered(taking::take_file(unit, name, body, store)),
         Call::Failure(kind, status) => answered(unit.failure(kind, status)),
         Call::Due => due_replied(unit.due()),
         Call::Ceiling(slot) => ceiling_replied(unit.ceiling(slot, store)),

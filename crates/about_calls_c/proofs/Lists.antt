@@ -6,7 +6,7 @@ use mathlib.Core.List.{List, [], _∷_}
 use mathlib.Core.Option.{Option, none, some}
 use native.Mathlib.Omega.{arith}
 use borrow.Author.Tests.{ne-eqb}
-use Rattle.rules.specs.Causes.{Reply, accepted, refused, numberOf, ofAnswer, ofDue, ofCeiling, ofCommand, ofFreeBlocks}
+use Rattle.rules.specs.Causes.{Reply, accepted, refused, numberOf, ofDue, ofCeiling, ofCommand, ofFreeBlocks}
 use Rattle.rules.specs.Machine.{Call, tick, clockLost, fileTaken, failure, due, ceilingOf, command, freeBlocks}
 use Rattle.rules.specs.File.{takeFile}
 use Rattle.rules.specs.Table.{firstOf}
@@ -21,14 +21,14 @@ use Rattle.unit.specs.Values.{isSound}
 use Rattle.unit.specs.Rows.{lengthRow, unitRow, soundRow, clockRow, tickRow, statusRow}
 use Rattle.unit.specs.Calls.{ticked, lost, withFailure, doneBy, tickOf, lostOf, failureOf, dueOf, ceilingOf as ceilingAt, commandOf, freeOf}
 use Rattle.taking.specs.Taken.{taken, takeRows, takeOf, storeAfterTake}
-use Rattle.taking.specs.Step.{State, stepDone, step, replies, after}
+use Rattle.calls.specs.Step.{State, stepDone, step, replies, after}
 use Rattle.unit.specs.declared.Unit.{Unit}
-use Rattle.unit.specs.declared.Done.{Done}
 use Rattle.c_structs.specs.Held.{opened, shutOf, handed}
 use Rattle.c_structs.specs.Answers.{dueNumbers, ceilingNumbers, commandNumber, blocksNumber}
-use Rattle.about_calls.specs.Lists.{asRefused, dueMeans, ceilingMeans, commandMeans, blocksMeans, HeldState, HeldStep, handedStep, heldStep, heldReplies, heldAfter, shutState, SameFromC}
+use Rattle.about_calls_c.specs.Lists.{asRefused, dueMeans, ceilingMeans, commandMeans, blocksMeans, handedStep, heldStep, heldReplies, heldAfter, shutState, SameFromC}
 use Rattle.c_structs.proofs.Handing.{unit-back, no-unit, sound-kept, wide-held}
-use Rattle.about_calls.proofs.Unsound.{unsound-step, step-refused}
+use Rattle.about_calls.proofs.Unsound.{unsound-step}
+use Rattle.about_calls_c.proofs.Unsound.{step-refused}
 
 -- ---- the answers
 

@@ -17,12 +17,12 @@ use Rattle.unit.specs.Values.{isSound, freshUnit, installedUnit}
 use Rattle.unit.proofs.CallLaws.{sound-is}
 use Rattle.c_structs.specs.Held.{shutOf, newly}
 use Rattle.c_structs.proofs.Handing.{unit-back}
-use Rattle.about_calls.specs.Lists.{heldInstall}
+use Rattle.about_calls_c.specs.Lists.{heldInstall}
 use Rattle.about_calls.specs.Theorem.{fresh}
-use Rattle.about_calls.specs.FromC.{EveryListFromC, InstalledFromC, UnsoundFromC, RefusedFromC}
-use Rattle.about_calls.proofs.Lists.{cause-refused, same-from-c}
-use Rattle.about_calls.proofs.Unsound.{all-refused}
+use Rattle.about_calls_c.specs.FromC.{EveryListFromC, InstalledFromC, UnsoundFromC, RefusedFromC}
+use Rattle.about_calls_c.proofs.Lists.{cause-refused, same-from-c}
+use Rattle.about_calls_c.proofs.Unsound.{all-refused}
 use Rattle.about_calls.proofs.EveryList.{every-list}
 
 pub every-list-from-c : EveryListFromC
 every-list-from-c p valid store cs =

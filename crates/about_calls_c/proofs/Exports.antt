@@ -1,18 +1,12 @@
--- Each exported contract is the step from C, and that of `taking::step` the unit's: where a contract in crates/jagwelu or of `step` is changed, this is
--- refused. Assumes nothing.
-use mathlib.Core.Path.{ap, ap₂, _∙_}
-use mathlib.Core.List.{List}
-use Prim.Native.Nat.{ℕ}
+-- Each exported contract is the step from C: where a contract in crates/jagwelu is changed, this is refused. Assumes nothing.
+use mathlib.Core.Path.{ap, ap₂}
 use denote.Ref.{now}
-use Rattle.taking.specs.Stepping.{replyOf}
-use Rattle.taking.specs.declared.calls.Stepped.{Stepped}
-use Rattle.taking.proofs.StepLaws.{steps-agree}
 use Rattle.c_structs.specs.declared.structs.Handed.{Handed}
 use Rattle.c_structs.specs.declared.answers.Number.{Number}
 use Rattle.c_structs.specs.declared.answers.DueAnswer.{DueAnswer}
 use Rattle.c_structs.specs.declared.answers.CeilingAnswer.{CeilingAnswer}
-use Rattle.about_calls.specs.Lists.{handedStep, dueMeans, ceilingMeans, commandMeans, blocksMeans, heldStep}
-use Rattle.about_calls.specs.Exports.{heldWith, unitWith, ExportsSay, ExportsAsk, StepSays}
+use Rattle.about_calls_c.specs.Lists.{handedStep, dueMeans, ceilingMeans, commandMeans, blocksMeans, heldStep}
+use Rattle.about_calls_c.specs.Exports.{heldWith, ExportsSay, ExportsAsk}
 
 pub exports-say : ExportsSay
 unfolding heldStep
@@ -46,11 +40,3 @@ exports-ask = record {
   checked = λ κs a. tt;
   requested = λ κs a. tt;
 }
-
-pub step-says : StepSays
-step-says = (
-  λ κs a. tt,
-  λ κs u call name body store r w said.
-      ap₂ (λ (s : Stepped) (after : List ℕ). (replyOf (s .reply), unitWith (s .unit) after)) (said .0) (said .1)
-      ∙ steps-agree u call (now name) (now body) (now store),
-)

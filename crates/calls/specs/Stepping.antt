@@ -1,22 +1,22 @@
--- A call given to the code as a value: what `taking::step` returns and leaves, and that it is the step which the theorem about every list of calls runs.
+-- A call given to the code as a value: what `calls::step` returns and leaves, and that it is the step which the theorem about every list of calls runs.
 use Prim.Native.Nat.{ℕ}
 use mathlib.Core.Path.{_≡_}
 use mathlib.Core.List.{List}
 use Rattle.rules.specs.Causes.{Reply as MachineReply, ofAnswer, ofDue, ofCeiling, ofCommand, ofFreeBlocks}
 use Rattle.rules.specs.Machine.{Call as MachineCall, tick, clockLost, fileTaken, failure, due, ceilingOf, command, freeBlocks}
 use Rattle.unit.specs.Calls.{tickOf, lostOf, failureOf}
 use Rattle.taking.specs.Taken.{takeOf, storeAfterTake}
 use Rattle.unit.specs.Asked.{dueAsked, ceilingAsked, commandAsked, freeAsked}
-use Rattle.taking.specs.Step.{Step, step}
+use Rattle.calls.specs.Step.{Step, step}
 use Rattle.unit.specs.declared.Unit.{Unit}
 use Rattle.unit.specs.declared.Done.{Done as UnitDone}
 use Rattle.unit.specs.declared.DueAsked.{DueAsked}
 use Rattle.unit.specs.declared.CeilingAsked.{CeilingAsked}
 use Rattle.unit.specs.declared.CommandAsked.{CommandAsked}
 use Rattle.unit.specs.declared.FreeAsked.{FreeAsked}
-use Rattle.taking.specs.declared.calls.Call.{Call}
-use Rattle.taking.specs.declared.calls.Reply.{Reply}
-use Rattle.taking.specs.declared.calls.Stepped.{Stepped}
+use Rattle.calls.specs.declared.Call.{Call}
+use Rattle.calls.specs.declared.Reply.{Reply}
+use Rattle.calls.specs.declared.Stepped.{Stepped}
 
 -- ---- what the code returns and leaves
 

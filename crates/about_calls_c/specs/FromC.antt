@@ -9,13 +9,13 @@ use Rattle.rules.specs.Writer.{refuse}
 use Rattle.rules.specs.declared.Cause.{Cause}
 use Rattle.plant.specs.Plant.{validPlant, plantOf}
 use Rattle.plant.specs.declared.Plant.{Plant}
-use Rattle.taking.specs.Step.{after}
+use Rattle.calls.specs.Step.{after}
 use Rattle.unit.specs.Values.{isSound}
 use Rattle.unit.specs.Request.{requestOf}
 use Rattle.c_structs.specs.Held.{opened}
 use Rattle.c_structs.specs.declared.structs.HeldUnit.{HeldUnit}
-use Rattle.about_calls.specs.Lists.{HeldState, shutState, heldInstall, heldReplies, heldAfter}
+use Rattle.about_calls_c.specs.Lists.{HeldState, shutState, heldInstall, heldReplies, heldAfter}
 use Rattle.about_calls.specs.Theorem.{fresh, told, Holds, toldBy, unsoundReply}
 
 -- for every list of calls from C, from the struct of any fresh unit and one store of any length and bytes: the answers are the machine's, and the
 -- struct is that of a unit which, with the store, is as `Holds` says
