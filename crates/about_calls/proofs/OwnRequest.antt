@@ -7,7 +7,7 @@ use Rattle.rules.specs.Name.{anySegment}
 use Rattle.rules.specs.Plant.{plantId, macAddress, validSettings}
 use Rattle.rules.specs.Request.{request, requestBytes}
 use Rattle.plant.specs.Plant.{settingsOf, validPlant}
-use Rattle.pool.proofs.BelowLaws.{and-true}
+use Rattle.laws.proofs.Tests.{both}
 use Rattle.about_files.proofs.Refusals.{judged, judged-refuses, judged-writes, room-is}
 use Rattle.unit.specs.Values.{isSound}
 use Rattle.unit.specs.Request.{requestOf}
@@ -21,8 +21,8 @@ unfolding validPlant
 own-plant u good =
     let id = plantId (u .plant .id) in
     let mac = macAddress (u .plant .mac) in
-    let w = and-true (id && mac) (validSettings (settingsOf (u .plant))) (sound-parts u good .plant) in
-    and-true id mac (w .0)
+    let w = both (id && mac) (validSettings (settingsOf (u .plant))) (sound-parts u good .plant) in
+    both id mac (w .0)
 
 own-judged : (u : Unit) (segment : List ℕ) (room : ℕ)
     → requestOf u segment room ≡ judged (ownRows u segment room) (requestBytes (u .plant .id) (u .plant .mac) segment)

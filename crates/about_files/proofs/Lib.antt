@@ -1,4 +1,3 @@
-pub mod Booleans  -- tests joined by `&&`, tests on equal bytes
 pub mod Causes  -- no two causes have the same number; none is 0, none has three digits
 pub mod Table  -- of rows whose places rise, the first that applies is the lowest
 pub mod Numerals  -- `decimal` and `value` are inverse; ASCII digits read back

@@ -16,10 +16,11 @@ use Rattle.rules.specs.Body.{Record, mostRates, flagDigits, nextDigits, formOfR
 use Rattle.rules.specs.File.{wholeMonth, monthsFrom, sum, checksumOf}
 use Rattle.rules.specs.Writer.{Fields, monthStart, monthRecord, monthRecords}
 use Rattle.rules.specs.declared.Format.{Format}
+use Rattle.laws.proofs.Tests.{both, join}
+use Rattle.laws.proofs.Facts.{digits-of, Digits}
 use Rattle.about_files.specs.Writing.{endToEnd}
-use Rattle.about_files.proofs.Booleans.{both, join}
 use Rattle.about_files.proofs.Numerals.{all-append, value-decimal, decimal-digits}
-use Rattle.about_files.proofs.Record.{facts-form, Digits, digits-of}
+use Rattle.about_files.proofs.Record.{facts-form}
 use Rattle.about_files.proofs.Calendar.{days-most, slotsFrom}
 use Rattle.about_files.proofs.MonthStart.{start-digits, start-begins, month-start, day-start, at-start, start-exists}
 

@@ -1,4 +1,4 @@
-pub mod Bools  -- tests joined, and when two tests are the same
+pub mod Ranges  -- numbers from one up to another, and runs of slots that meet
 pub mod Counts  -- the machine's count of the months that pass a test
 pub mod Bytes  -- a store after a run of stores in one block, from that block and from another
 pub mod Given  -- which blocks hold which months after one is given or some are released

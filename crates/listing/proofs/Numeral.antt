@@ -11,7 +11,7 @@ use lib.ListN.{length, length-append, length-map}
 use Rattle.rules.specs.Digits.{decimal, toAscii}
 use Rattle.rules.specs.File.{sum}
 use Rattle.rules.specs.Lister.{trim, numeral}
-use Rattle.about_files.proofs.Numerals.{length-decimal}
+use Rattle.laws.proofs.Bytes.{length-decimal}
 
 -- a digit more than a number needs is a zero before it
 lead : (k n : ℕ) → n < 10 ^ k → decimal (suc k) n ≡ 0 ∷ decimal k n

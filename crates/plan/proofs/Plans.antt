@@ -20,7 +20,8 @@ use Rattle.rules.specs.Table.{need}
 use Rattle.rules.specs.declared.Cause.{Cause}
 use Rattle.rules.specs.declared.Format.{Format}
 use Rattle.rules.specs.declared.Format.the-variants.{F201, F202, F203, F301}
-use Rattle.digits.proofs.Parts.{both, digits-length}
+use Rattle.laws.proofs.Tests.{both}
+use Rattle.digits.proofs.Parts.{digits-length}
 use Rattle.calendar.specs.Moments.{monthBegun}
 use Rattle.calendar.specs.declared.dates.Begun.the-variants.{Month, Nothing}
 use Rattle.calendar.proofs.Begins.{begun-facts, begun-none}

@@ -16,9 +16,9 @@ use Rattle.rules.specs.Name.{anySegment}
 use Rattle.rules.specs.Writer.{Output, refuse, bytes, writtenOf, bufferAfter}
 use Rattle.rules.specs.declared.Cause.{Cause}
 use Rattle.rules.specs.declared.Written.{Written}
-use Rattle.name.proofs.Ascii.{both}
 use Rattle.name.proofs.Laws.{segment-length}
 use Rattle.rules.specs.Request.{request, requestBytes, plantParameter, macParameter, segmentParameter}
+use Rattle.laws.proofs.Tests.{both}
 use Rattle.request.specs.Parts.{Parts}
 
 -- ---- a loop that writes bytes b into d from place k on

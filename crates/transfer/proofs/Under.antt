@@ -16,12 +16,12 @@ use Rattle.rules.specs.declared.Format.{Format}
 use Rattle.rules.specs.Reading.{readingOf}
 use Rattle.rules.specs.declared.Reading.{Reading}
 use Rattle.rules.specs.declared.Reading.the-variants.{Refused}
+use Rattle.laws.proofs.Tests.{both}
 use Rattle.body.specs.Reading.{nameOf}
 use Rattle.body.proofs.Outcomes.{created-free}
 use Rattle.name.specs.Read.{plantDigits}
 use Rattle.name.specs.declared.Fields.{Fields}
 use Rattle.name.proofs.Laws.{Read, parsed, plant-is}
-use Rattle.name.proofs.Ascii.{both}
 use Rattle.about_files.proofs.Numerals.{decimal-value}
 use Rattle.transfer.specs.Under.{underName, forPlant}
 

@@ -10,6 +10,7 @@ use Rattle.rules.specs.Calendar.{firstSlot}
 use Rattle.rules.specs.Body.{schedule, encodeBody, encodeRecord, encodeRecords}
 use Rattle.rules.specs.Writer.{Fields, Output, fitting, updateRecord, writeBody}
 use Rattle.rules.specs.declared.Cause.{Cause}
+use Rattle.laws.proofs.Bytes.{length-decimal}
 use Rattle.digits.specs.Placed.{placed}
 use Rattle.digits.proofs.Placing.{placed-next}
 use Rattle.plan.specs.Fields.{fieldsOf, monthFields}
@@ -17,7 +18,6 @@ use Rattle.writer.specs.Bodies.{monthsBody, updateBody}
 use Rattle.plan.specs.Plan.{planOf}
 use Rattle.plan.specs.Given.{MonthsGiven, UpdateGiven}
 use Rattle.plan.specs.declared.Plan.the-variants.{Months, Update, Refused}
-use Rattle.writer.proofs.Numbers.{length-decimal}
 use Rattle.writer.proofs.Records.{update-length}
 use Rattle.writer.proofs.Months.{monthsBytes, months-length, same-months, count-months}
 use Rattle.plan.proofs.Plans.{output-is}

@@ -5,8 +5,9 @@ use denote.Ref.{now}
 use lib.ListN.{length, drop}
 use borrow.Author.Tests.{le-leb, lt-leb}
 use Rattle.rules.specs.Digits.{allAtMost, valueFrom}
+use Rattle.laws.proofs.Bytes.{more-digits}
 use Rattle.digits.specs.Decimal.{decimalOf}
-use Rattle.digits.proofs.Scan.{digit-step, digit-stop, digit-end, value-step, value-end, more-digits, fits-digits}
+use Rattle.digits.proofs.Scan.{digit-step, digit-stop, digit-end, value-step, value-end, fits-digits}
 use Rattle.digits.proofs.number.Statement.{statement}
 use Rattle.digits.proofs.number.Tie as tie
 

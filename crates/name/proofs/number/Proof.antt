@@ -7,8 +7,8 @@ use native.Mathlib.Omega.{arith}
 use lib.ListN.{length, drop}
 use denote.Ref.{now}
 use borrow.Author.Needs.{needs}
-use Rattle.digits.proofs.Scan.{more-digits}
 use Rattle.rules.specs.Digits.{allAscii, fromAscii, valueFrom}
+use Rattle.laws.proofs.Bytes.{more-digits}
 use Rattle.name.proofs.Ascii.{number-step, number-end, ascii-next, four-digits}
 use Rattle.name.proofs.number.Statement.{statement}
 use Rattle.name.proofs.number.Tie as tie

@@ -8,7 +8,7 @@ use borrow.Author.Needs.{needs}
 use borrow.Author.Tests.{not-true, not-false}
 use Rattle.rules.specs.Digits.{allDigits}
 use Rattle.rules.specs.File.{monthBegins}
-use Rattle.digits.proofs.Parts.{both}
+use Rattle.laws.proofs.Tests.{both}
 use Rattle.calendar.specs.Moments.{monthExists}
 use Rattle.calendar.proofs.DateLaws.{MonthFacts, month-facts}
 use Rattle.calendar.proofs.Begins.{begun-short, begun-not, begun-is}
