@@ -6,7 +6,7 @@ use Rattle.rules.specs.Machine.{Call, tick, clockLost, fileTaken, failure, due,
 use Rattle.schedule.specs.Stored.{Stored}
 use Rattle.about_store.proofs.View.{View, Shows}
 use Rattle.about_store.proofs.Shown.{Plain}
-use Rattle.taking.specs.Step.{State, Step, replies, after}
+use Rattle.calls.specs.Step.{State, Step, replies, after}
 use Rattle.about_alike.proofs.Outcomes.{Beside, Good, made, Outcome}
 use Rattle.about_alike.proofs.Questions.{command-outcome, free-outcome, due-outcome, ceiling-outcome, lost-outcome, failure-outcome}
 use Rattle.about_alike.proofs.Ticking.{tick-outcome}

@@ -22,7 +22,7 @@ use Rattle.about_store.proofs.View.{View, Shows}
 use Rattle.about_store.proofs.Shown.{Plain, held-same, bytes-same}
 use Rattle.unit.specs.Values.{freshPool, freshUnit}
 use Rattle.unit.specs.Calls.{lost}
-use Rattle.taking.specs.Step.{State, Step, stepDone, step, replies, after}
+use Rattle.calls.specs.Step.{State, Step, stepDone, step, replies, after}
 use Rattle.unit.specs.declared.Done.{Done}
 use Rattle.unit.proofs.CallLaws.{lost-done}
 use Rattle.unit.proofs.SoundParts.{sound-parts}

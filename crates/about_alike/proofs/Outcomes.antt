@@ -20,7 +20,7 @@ use Rattle.schedule.specs.Stored.{Stored}
 use Rattle.about_store.proofs.View.{View, Shows}
 use Rattle.about_store.proofs.Shown.{Plain, store-view}
 use Rattle.unit.specs.Values.{clockOf, isSound}
-use Rattle.taking.specs.Step.{State, Step, step}
+use Rattle.calls.specs.Step.{State, Step, step}
 use Rattle.unit.specs.declared.Unit.{Unit}
 use Rattle.unit.specs.declared.Clock.{Clock}
 use Rattle.unit.proofs.SoundParts.{parts-sound}

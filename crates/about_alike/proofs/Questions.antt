@@ -25,7 +25,7 @@ use Rattle.polling.specs.Requests.{requestsFrom}
 use Rattle.polling.specs.Due.{dueFor}
 use Rattle.unit.specs.Rows.{isUnset}
 use Rattle.unit.specs.Calls.{lost, ceilingAnswer}
-use Rattle.taking.specs.Step.{stepDone, step}
+use Rattle.calls.specs.Step.{stepDone, step}
 use Rattle.unit.specs.declared.Done.{Done}
 use Rattle.unit.specs.declared.Clock.{Clock}
 use Rattle.unit.specs.declared.Clock.the-variants.{Unset, At}

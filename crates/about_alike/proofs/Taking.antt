@@ -27,7 +27,7 @@ use Rattle.unit.specs.Values.{clockOf}
 use Rattle.unit.specs.Rows.{isUnset}
 use Rattle.unit.specs.Calls.{clockTime}
 use Rattle.taking.specs.Taken.{withFile, storeWith, fullRow}
-use Rattle.taking.specs.Step.{State}
+use Rattle.calls.specs.Step.{State}
 use Rattle.unit.specs.declared.Clock.{Clock}
 use Rattle.unit.specs.declared.Clock.the-variants.{Unset, At}
 use Rattle.about_calls.proofs.UnitLaws as unit

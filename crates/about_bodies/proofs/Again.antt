@@ -45,14 +45,16 @@ shares (r ∷ rs) h = all-same (r .schedule) rs (λ i l. h (suc i) (omega arith)
 -- ---- the fields that are handed over are those of the records
 
 same-fields : (f : Format) (rs : List Record)
-    → fieldsOf (formatNumber f) (fieldIn Plant (getElem? rs 0)) (fieldIn Schedule (getElem? rs 0)) (fieldIn Start (getElem? rs 0)) (fieldIn Next (getElem? rs 0)) (endToEnd rs) (flagOf rs)
+    → let first = getElem? rs 0 in
+    fieldsOf (formatNumber f) (fieldIn Plant first) (fieldIn Schedule first) (fieldIn Start first) (fieldIn Next first) (endToEnd rs) (flagOf rs)
     ≡ fieldsIn f rs
 same-fields f [] = refl
 same-fields f (r ∷ rs) = refl
 
 -- ---- the body
 
-module _ (plant : Option (List ℕ)) (name body space out : List ℕ) (f : File) (e : readFile plant name body ≡ file f) (i : isSchedule (f .name .format) ≡ true) where
+module _ (plant : Option (List ℕ)) (name body space out : List ℕ) (f : File) (e : readFile plant name body ≡ file f)
+    (i : isSchedule (f .name .format) ≡ true) where
   abbrev fmt : Format
   fmt = f .name .format
 

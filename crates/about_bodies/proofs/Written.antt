@@ -81,7 +81,8 @@ unfolding fieldRecords updateRecord
 first-flag f w e = rw e refl
 
 -- ---- what is read of a body that was written
-module _ (w : Fields) (room : ℕ) (b : List ℕ) (f : Format) (n : Name) (e : writeBody w room ≡ bytes b) (q : formatOf (w .format) ≡ some f) (h : NameFor f w n) where
+module _ (w : Fields) (room : ℕ) (b : List ℕ) (f : Format) (n : Name) (e : writeBody w room ≡ bytes b)
+    (q : formatOf (w .format) ≡ some f) (h : NameFor f w n) where
   abbrev rs : List Record
   rs = fieldRecords f w
 

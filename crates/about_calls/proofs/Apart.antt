@@ -18,7 +18,7 @@ use Rattle.schedule.specs.Stored.{place}
 use Rattle.about_store.proofs.Counts.{member-mem, mem-member}
 use Rattle.about_store.proofs.Given.{free-held}
 use Rattle.about_store.proofs.Laws.{bytes-agree}
-use Rattle.taking.specs.Step.{State, step, after}
+use Rattle.calls.specs.Step.{State, step, after}
 use Rattle.about_calls.specs.Theorem.{fresh, toldBy}
 use Rattle.about_calls.specs.Apart.{BlockOf, Owned, Unowned, Matched, Stays, Moved, MatchedFrom, MonthsMatched, InstalledMatched}
 use Rattle.about_calls.proofs.Options.{not-both}

@@ -13,7 +13,7 @@ use Rattle.plant.specs.Plant.{validPlant}
 use Rattle.plant.specs.declared.Plant.{Plant}
 use Rattle.about_store.proofs.Laws.{fresh-agrees}
 use Rattle.unit.specs.Values.{freshPool, freshUnit}
-use Rattle.taking.specs.Step.{State, step, replies, after}
+use Rattle.calls.specs.Step.{State, step, replies, after}
 use Rattle.about_calls.specs.Theorem.{fresh, told, EveryList}
 use Rattle.about_calls.proofs.Options.{test-same, test-other}
 use Rattle.about_calls.proofs.Follows.{Kept, agrees, apart, Follows, follows-holds}

@@ -20,7 +20,7 @@ use Rattle.schedule.specs.Stored.{Stored}
 use Rattle.about_store.specs.Agrees.{Agrees}
 use Rattle.about_store.proofs.Laws.{pool-sound, store-sound, months-agree, blocks-agree}
 use Rattle.unit.specs.Values.{clockOf, isSound, freshPool}
-use Rattle.taking.specs.Step.{State}
+use Rattle.calls.specs.Step.{State}
 use Rattle.unit.proofs.CallLaws.{sound-is}
 use Rattle.about_calls.specs.Theorem.{Holds}
 

@@ -22,7 +22,7 @@ use Rattle.pool.specs.Held.{heldBelow}
 use Rattle.pool.proofs.BelowLaws.{all-at}
 use Rattle.unit.specs.Values.{valuesOf, isSound, freshUnit, installedUnit}
 use Rattle.unit.specs.Request.{requestOf}
-use Rattle.taking.specs.Step.{State, replies, after}
+use Rattle.calls.specs.Step.{State, replies, after}
 use Rattle.unit.specs.declared.Unit.{Unit}
 use Rattle.unit.proofs.CallLaws.{sound-is}
 use Rattle.about_calls.specs.Theorem.{fresh, Holds, installedState, toldBy, EveryListInstalled}

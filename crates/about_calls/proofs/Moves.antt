@@ -34,7 +34,7 @@ use Rattle.about_store.proofs.Given.{given-cases, given-keeps}
 use Rattle.about_store.proofs.Put.{live}
 use Rattle.unit.specs.Calls.{doneBy, setClock, withCommand, second, seconds, tickFrom, ticked, tickOf, lost, lostOf, withFailure, failureOf}
 use Rattle.taking.specs.Taken.{takeRows, takeOf, taken, withFile}
-use Rattle.taking.specs.Step.{State, step, after}
+use Rattle.calls.specs.Step.{State, step, after}
 use Rattle.unit.specs.declared.Unit.{Unit}
 use Rattle.unit.specs.declared.Clock.{Clock}
 use Rattle.unit.specs.declared.Clock.the-variants.{Unset, At}

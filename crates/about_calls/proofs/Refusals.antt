@@ -33,7 +33,7 @@ use Rattle.unit.specs.Values.{isSound}
 use Rattle.unit.specs.Rows.{lengthRow, unitRow, soundRow, clockRow, tickRow, slotRow, statusRow}
 use Rattle.unit.specs.Calls.{doneBy, ticked, tickOf, lost, lostOf, withFailure, failureOf, dueBy, dueOf, clockTime, ceilingBy, ceilingAnswer, ceilingOf as ceilingAt, commandBy, commandOf, freeBy, freeOf}
 use Rattle.taking.specs.Taken.{takeRows, takeOf, taken, outcomeRow, storeBy, storeWith, storeAfterTake}
-use Rattle.taking.specs.Step.{State, stepDone, step}
+use Rattle.calls.specs.Step.{State, stepDone, step}
 use Rattle.unit.specs.declared.Unit.{Unit}
 use Rattle.about_calls.specs.Acceptance.{together}
 use Rattle.about_calls.specs.Full.{crowds, fullBreaks}

@@ -27,7 +27,7 @@ use Rattle.about_store.proofs.Laws.{same-agrees, store-sound, rate-agrees, free
 use Rattle.unit.specs.Values.{clockOf, isSound, freshPool}
 use Rattle.unit.specs.Rows.{isUnset}
 use Rattle.unit.specs.Calls.{lost, ceilingAnswer}
-use Rattle.taking.specs.Step.{State, Step, stepDone, step}
+use Rattle.calls.specs.Step.{State, Step, stepDone, step}
 use Rattle.unit.specs.declared.Unit.{Unit}
 use Rattle.unit.specs.declared.Done.{Done}
 use Rattle.unit.specs.declared.Clock.{Clock}

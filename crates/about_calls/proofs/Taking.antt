@@ -31,7 +31,7 @@ use Rattle.about_store.proofs.Laws.{put-agrees, taken-good, room-agrees}
 use Rattle.unit.specs.Rows.{isUnset}
 use Rattle.unit.specs.Calls.{clockTime}
 use Rattle.taking.specs.Taken.{withFile, storeWith, fullRow}
-use Rattle.taking.specs.Step.{State, step}
+use Rattle.calls.specs.Step.{State, step}
 use Rattle.unit.specs.declared.Unit.{Unit}
 use Rattle.unit.specs.declared.Clock.{Clock}
 use Rattle.unit.specs.declared.Clock.the-variants.{Unset, At}

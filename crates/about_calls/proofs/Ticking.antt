@@ -21,7 +21,7 @@ use Rattle.about_store.specs.Agrees.{Agrees}
 use Rattle.about_store.proofs.Laws.{release-agrees, same-agrees, rate-agrees}
 use Rattle.unit.specs.Values.{clockOf}
 use Rattle.unit.specs.Calls.{setClock, withCommand, second, seconds, tickFrom, ticked}
-use Rattle.taking.specs.Step.{State}
+use Rattle.calls.specs.Step.{State}
 use Rattle.unit.specs.declared.Clock.{Clock}
 use Rattle.unit.specs.declared.Clock.the-variants.{Unset, At}
 use Rattle.about_calls.proofs.Options.{none-some, some-none, some-same}

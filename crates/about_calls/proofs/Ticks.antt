@@ -21,7 +21,7 @@ use Rattle.pool.proofs.BelowLaws.{number-bits, sum-same}
 use Rattle.about_store.proofs.Laws.{store-sound}
 use Rattle.unit.specs.Values.{isSound, clockOf}
 use Rattle.unit.specs.Calls.{setClock, tickFrom, ticked, tickOf}
-use Rattle.taking.specs.Step.{State, replies, after}
+use Rattle.calls.specs.Step.{State, replies, after}
 use Rattle.unit.specs.declared.Unit.{Unit}
 use Rattle.unit.specs.declared.Clock.{Clock}
 use Rattle.unit.specs.declared.Clock.the-variants.{At}

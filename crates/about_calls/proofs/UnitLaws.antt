@@ -19,7 +19,7 @@ use Rattle.unit.specs.Values.{isSound}
 use Rattle.unit.specs.Rows.{isUnset}
 use Rattle.unit.specs.Calls.{ticked, tickOf, ceilingOf as ceilingAt, ceilingAnswer}
 use Rattle.taking.specs.Taken.{takeOf, storeAfterTake, fullRow, storeWith, withFile}
-use Rattle.taking.specs.Step.{State, Step, step}
+use Rattle.calls.specs.Step.{State, Step, step}
 
 -- a refusal: the cause's number, and the state as it was
 abbrev pub refusal : Cause → State → Step

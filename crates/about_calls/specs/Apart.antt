@@ -18,7 +18,7 @@ use Rattle.pool.specs.declared.Pool.{Pool}
 use Rattle.schedule.specs.Stored.{place}
 use Rattle.about_store.specs.Agrees.{rateAt, monthBytes}
 use Rattle.unit.specs.Values.{installedUnit}
-use Rattle.taking.specs.Step.{State, step, after}
+use Rattle.calls.specs.Step.{State, step, after}
 use Rattle.about_calls.specs.Theorem.{fresh, told, installedState, toldBy}
 
 -- b is the block of month m, and m has no other

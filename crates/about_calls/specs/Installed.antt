@@ -16,7 +16,7 @@ use Rattle.rules.specs.declared.Cause.{Cause}
 use Rattle.plant.specs.Plant.{plantOf, validPlant}
 use Rattle.unit.specs.Values.{valuesOf, isSound, freshUnit, installedUnit}
 use Rattle.unit.specs.Request.{requestOf}
-use Rattle.taking.specs.Step.{replies, after}
+use Rattle.calls.specs.Step.{replies, after}
 use Rattle.about_calls.specs.Theorem.{installedState, unsoundReply}
 
 abbrev pub InstallRefuses : Type 0

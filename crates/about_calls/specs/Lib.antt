@@ -3,10 +3,8 @@ pub mod Ticks
 pub mod Acceptance
 pub mod Full
 pub mod Refusals
+pub mod OwnRequest
 pub mod Installed
 pub mod Sentences
 pub mod Apart
-pub mod Lists
-pub mod Exports
-pub mod FromC
-pub mod ApartFromC
+pub mod AnyCall

@@ -20,7 +20,7 @@ use Rattle.pool.specs.Held.{heldOf}
 use Rattle.unit.specs.Values.{isSound}
 use Rattle.unit.specs.Rows.{isUnset}
 use Rattle.taking.specs.Taken.{takeOf}
-use Rattle.taking.specs.Step.{State, step}
+use Rattle.calls.specs.Step.{State, step}
 use Rattle.unit.specs.declared.Unit.{Unit}
 use Rattle.about_calls.specs.Theorem.{lent}
 use Rattle.about_calls.specs.Full.{fullBreaks}

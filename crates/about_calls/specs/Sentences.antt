@@ -14,7 +14,7 @@ use Rattle.plant.specs.declared.Plant.{Plant}
 use Rattle.schedule.specs.Stored.{storedRate}
 use Rattle.about_store.specs.Untouched.{Untouched}
 use Rattle.taking.specs.Taken.{takeOf, storeAfterTake}
-use Rattle.taking.specs.Step.{State, step, after}
+use Rattle.calls.specs.Step.{State, step, after}
 use Rattle.unit.specs.declared.Unit.{Unit}
 use Rattle.about_calls.specs.Theorem.{fresh, told}
 

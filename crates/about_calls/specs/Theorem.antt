@@ -16,7 +16,7 @@ use Rattle.plant.specs.declared.Plant.{Plant}
 use Rattle.pool.specs.Held.{heldOf}
 use Rattle.about_store.specs.Agrees.{BlocksHave}
 use Rattle.unit.specs.Values.{isSound, freshUnit, installedUnit}
-use Rattle.taking.specs.Step.{State, replies, after}
+use Rattle.calls.specs.Step.{State, replies, after}
 
 -- the fresh unit of a plant, with a store
 abbrev pub fresh : Plant → List ℕ → State

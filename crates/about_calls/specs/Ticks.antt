@@ -8,7 +8,7 @@ use Rattle.rules.specs.declared.Answer.{Answer}
 use Rattle.plant.specs.Plant.{validPlant}
 use Rattle.plant.specs.declared.Plant.{Plant}
 use Rattle.unit.specs.Calls.{tickOf}
-use Rattle.taking.specs.Step.{State, replies, after}
+use Rattle.calls.specs.Step.{State, replies, after}
 use Rattle.unit.specs.Ticks.{tickEach}
 use Rattle.unit.specs.declared.Unit.{Unit}
 use Rattle.unit.specs.declared.Clock.{Clock}

@@ -56,7 +56,8 @@ module _ (w : Fields) where
   months-every p h zero m rates = refl
   months-every p h (suc k) m rates = join (h m rates) (months-every p h k (suc m) (drop (slotsOfMonth m) rates))
 
-  pub months-rates : (k m : ℕ) (rates : List ℕ) → allAtMost highestRate rates ≡ true → every (λ r. allAtMost highestRate (r .rates)) (monthRecords w k m rates) ≡ true
+  pub months-rates : (k m : ℕ) (rates : List ℕ) → allAtMost highestRate rates ≡ true
+      → every (λ r. allAtMost highestRate (r .rates)) (monthRecords w k m rates) ≡ true
   unfolding monthRecords every
   months-rates zero m rates e = refl
   months-rates (suc k) m rates e =
@@ -99,7 +100,8 @@ module _ (w : Fields) where
             next = rw nx nothing;
           })
 
-  pub months-checksums : (k m : ℕ) (rates : List ℕ) → every (λ r. eqb (value (r .checksum)) (checksumOf (r .start) (r .rates))) (monthRecords w k m rates) ≡ true
+  pub months-checksums : (k m : ℕ) (rates : List ℕ)
+      → every (λ r. eqb (value (r .checksum)) (checksumOf (r .start) (r .rates))) (monthRecords w k m rates) ≡ true
   months-checksums =
       months-every (λ r. eqb (value (r .checksum)) (checksumOf (r .start) (r .rates)))
       (λ m rates.

@@ -28,7 +28,7 @@ use Rattle.about_files.proofs.Table.{rising, answerBy, answer-refuses, 
 -- ---- an output that rows decide
 
 -- rows judged one after the other, and the output where none applies
-abbrev judged : List Row → List ℕ → Output
+abbrev pub judged : List Row → List ℕ → Output
 judged [] b = bytes b
 judged (r ∷ rs) b = need (not (r .applies)) (refuse (r .cause)) (judged rs b)
 
@@ -47,10 +47,10 @@ judged-first (r ∷ rs) b = go (r .applies) (judged-first rs b)
     go false e = e
 
 module _ (rows : List Row) (b : List ℕ) where
-  judged-refuses : rising rows ≡ true → (c : Cause) → (judged rows b ≡ refuse c) ↔ Lowest rows c
+  pub judged-refuses : rising rows ≡ true → (c : Cause) → (judged rows b ≡ refuse c) ↔ Lowest rows c
   judged-refuses rise c = rw (judged-first rows b) (answer-refuses refuse (bytes b) causeOf (λ d. refl) refl rows rise c)
 
-  judged-writes : (d : List ℕ) → (judged rows b ≡ bytes d) ↔ (((c : Cause) → appliesIn rows c ≡ false) × (d ≡ b))
+  pub judged-writes : (d : List ℕ) → (judged rows b ≡ bytes d) ↔ (((c : Cause) → appliesIn rows c ≡ false) × (d ≡ b))
   judged-writes d = rw (judged-first rows b) (go (firstOf rows) (answer-given refuse (bytes b) causeOf (λ c. refl) refl rows))
     where
       go : (o : Option Cause) → (answerBy refuse (bytes b) o ≡ bytes b) ↔ ((c : Cause) → appliesIn rows c ≡ false)
@@ -59,7 +59,7 @@ module _ (rows : List Row) (b : List ℕ) where
       go (some c) i = (λ e. absurd (Option·some-ne-none c (ap causeOf e)), λ h. absurd (Option·some-ne-none c (ap causeOf (i .1 (h .0)))))
 
 -- ---- laws of the tests
-room-is : (b : List ℕ) (room : ℕ) → not (roomBreaks b room) ≡ leb (length b) room
+pub room-is : (b : List ℕ) (room : ℕ) → not (roomBreaks b room) ≡ leb (length b) room
 room-is b room = ap not (below-is room (length b)) ∙ Bool·not-not (leb (length b) room)
 
 flag-law : (a p q : Bool) → not (not a && not (p || q)) ≡ (a || p || q)
@@ -140,11 +140,13 @@ module _ (w : Fields) (room : ℕ) where
   rest-is none e = no-rest (no-number e)
   rest-is (some F201) e =
       let a = number-is F201 e in
-      rest-with true (digitsFit F201 w) (monthsFit 13 w) (simp (a .is201, a .is202, a .is203)) (rw (a .is203) (two-law (digits 10 (w .schedule)) (digits 12 (w .start))))
+      rest-with true (digitsFit F201 w) (monthsFit 13 w) (simp (a .is201, a .is202, a .is203))
+      (rw (a .is203) (two-law (digits 10 (w .schedule)) (digits 12 (w .start))))
       (simp (a .is201, a .is202, a .is203) (first-law (monthsFit 13 w))) (ap (λ (o : Option Format). encodeBody (schedule (recordsFor o w))) e)
   rest-is (some F202) e =
       let a = number-is F202 e in
-      rest-with true (digitsFit F202 w) (monthsFit 1 w) (simp (a .is201, a .is202, a .is203)) (rw (a .is203) (two-law (digits 10 (w .schedule)) (digits 12 (w .start))))
+      rest-with true (digitsFit F202 w) (monthsFit 1 w) (simp (a .is201, a .is202, a .is203))
+      (rw (a .is203) (two-law (digits 10 (w .schedule)) (digits 12 (w .start))))
       (simp (a .is201, a .is202, a .is203) (second-law (monthsFit 1 w))) (ap (λ (o : Option Format). encodeBody (schedule (recordsFor o w))) e)
   rest-is (some F203) e =
       let a = number-is F203 e in

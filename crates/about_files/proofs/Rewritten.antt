@@ -105,7 +105,8 @@ months-long (r ∷ rs) m e =
     length-append (r .rates) (endToEnd rs) ∙ ap₂ _+_ (month-facts m r (p .0) .full) (months-long rs (suc m) (p .1))
 
 -- the last month ends by the end of 2099
-months-inside : (f : Format) (rs : List Record) (m : ℕ) → every (formOfRecord f) rs ≡ true → monthsFrom m rs ≡ true → m ≤ monthCount → m + length rs ≤ monthCount
+months-inside : (f : Format) (rs : List Record) (m : ℕ) → every (formOfRecord f) rs ≡ true → monthsFrom m rs ≡ true
+    → m ≤ monthCount → m + length rs ≤ monthCount
 unfolding monthsFrom every
 months-inside f [] m g e h = omega arith
 months-inside f (r ∷ rs) m g e h =

@@ -145,7 +145,8 @@ answerBy refusal answer none = answer
 answerBy refusal answer (some c) = refusal c
 
 -- `causeOf` tells the refusals from the answer, and one from another
-module _ {A : Type 0} (refusal : Cause → A) (answer : A) (causeOf : A → Option Cause) (some-of : (c : Cause) → causeOf (refusal c) ≡ some c) (none-of : causeOf answer ≡ none) where
+module _ {A : Type 0} (refusal : Cause → A) (answer : A) (causeOf : A → Option Cause)
+    (some-of : (c : Cause) → causeOf (refusal c) ≡ some c) (none-of : causeOf answer ≡ none) where
   cause-is : (o : Option Cause) → causeOf (answerBy refusal answer o) ≡ o
   cause-is none = none-of
   cause-is (some c) = some-of c

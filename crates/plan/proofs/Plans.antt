@@ -305,7 +305,8 @@ module _ (w : Fields) where
     one-need false c p = refl
 
     three-needs : (a b d : Bool) (c₁ c₂ c₃ : Cause) (p : Plan)
-        → need a (refuse c₁) (need b (refuse c₂) (need d (refuse c₃) (outputOf w room p))) ≡ outputOf w room (need a (Refused c₁) (need b (Refused c₂) (need d (Refused c₃) p)))
+        → need a (refuse c₁) (need b (refuse c₂) (need d (refuse c₃) (outputOf w room p)))
+        ≡ outputOf w room (need a (Refused c₁) (need b (Refused c₂) (need d (Refused c₃) p)))
     three-needs a b d c₁ c₂ c₃ p = rw (one-need d c₃ p, one-need b c₂ (need d (Refused c₃) p)) (one-need a c₁ (need b (Refused c₂) (need d (Refused c₃) p)))
 
     -- a 201 or 202

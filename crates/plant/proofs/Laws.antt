@@ -158,7 +158,9 @@ module _ (id mac : List ℕ) (s : Settings) where
     unfolding validPlant installing
     accepted-values = go (plantId id) (macAddress mac) (validSettings s) a
       where
-        go : (i m v : Bool) → cond i (cond (m && v) Answer.Accepted (Answer.Refused Cause.Setting)) (Answer.Refused Cause.PlantId) ≡ Answer.Accepted → (i && m && v) ≡ true
+        go : (i m v : Bool)
+            → cond i (cond (m && v) Answer.Accepted (Answer.Refused Cause.Setting)) (Answer.Refused Cause.PlantId) ≡ Answer.Accepted
+            → (i && m && v) ≡ true
         go true true true e = refl
         go true true false e = cc
         go true false v e = cc

@@ -250,11 +250,11 @@ impl Plant {
         ((rate as u64) * self.settings.contracted() / inverter) as u8
     }
 
-    // The parts that the command goes to at the rate r: p percent. Wide, so that they fit for every u32 N.
-    pub fn target(self, rate: u8) -> u64
-        ensures { λ r. ⌜ r ≡ partsOf (settingsOf self) (percent (settingsOf self) rate) ⌝ }
+    // The command's parts of p percent. Wide, so that they fit for every u32 N.
+    pub fn parts(self, percent: u8) -> u64
+        ensures { λ r. ⌜ r ≡ partsOf (settingsOf self) percent ⌝ }
     {
-        PARTS_OF_PERCENT * (self.settings.minutes as u64) * (self.percent(rate) as u64)
+        PARTS_OF_PERCENT * (self.settings.minutes as u64) * (percent as u64)
     }
 
     // The ID's last digit.

@@ -118,10 +118,12 @@ month-out (suc k) p m e = go (month-out k p m) (isFree p k) refl e
     up : Below k p m → Below (suc k) p m
     up w = (w .0, omega (arith, w .1), w .2, w .3)
 
-    go : (member m (monthsOf (heldBelow k p)) ≡ true → Below k p m) → (x : Bool) → isFree p k ≡ x → member m (monthsOf (grown k p x)) ≡ true → Below (suc k) p m
+    go : (member m (monthsOf (heldBelow k p)) ≡ true → Below k p m) → (x : Bool) → isFree p k ≡ x
+        → member m (monthsOf (grown k p x)) ≡ true → Below (suc k) p m
     go r true f d = up (r d)
     go r false f d =
-        ⊎-elim (λ s. (k, omega arith, f, sym (eqb-true m (monthOf p k) s))) (λ d′. up (r d′)) (either (eqb m (monthOf p k)) (member m (monthsOf (heldBelow k p))) d)
+        ⊎-elim (λ s. (k, omega arith, f, sym (eqb-true m (monthOf p k) s))) (λ d′. up (r d′))
+        (either (eqb m (monthOf p k)) (member m (monthsOf (heldBelow k p))) d)
 
 -- ---- 01's words from a sound pool
 
@@ -134,7 +136,9 @@ module _ (p : Pool) (floor : ℕ) (s : Sound p floor) where
       other : isFree p k ≡ false → member (monthOf p k) (monthsOf (heldBelow k p)) ≡ true → ⊥
       other u d =
           let w = month-out k p (monthOf p k) d in
-          let same : w .0 ≡ k = s .one (monthOf p k) (w .0) k (record { below = omega (arith, w .1); used = w .2; month = w .3 }) (record { below = l; used = u; month = refl }) in
+          let below : InBlock p (monthOf p k) (w .0) = record { below = omega (arith, w .1); used = w .2; month = w .3 } in
+          let top : InBlock p (monthOf p k) k = record { below = l; used = u; month = refl } in
+          let same : w .0 ≡ k = s .one (monthOf p k) (w .0) k below top in
           omega (arith, w .1)
 
       go : distinct (monthsOf (heldBelow k p)) ≡ true → (x : Bool) → isFree p k ≡ x → distinct (monthsOf (grown k p x)) ≡ true
@@ -166,7 +170,10 @@ distinct-down : (n k : ℕ) (p : Pool) → k ≤ n → distinct (monthsOf (heldB
 unfolding heldBelow distinct
 distinct-down zero zero p l e = e
 distinct-down zero (suc k) p l e = absurd (omega arith)
-distinct-down (suc n) k p l e = ⊎-elim (λ q. ap (λ (j : ℕ). distinct (monthsOf (heldBelow j p))) q ∙ e) (λ h. distinct-down n k p (le-of-suc-le-suc h) (go (isFree p n) e)) (eq-or-lt-of-le l)
+distinct-down (suc n) k p l e =
+    ⊎-elim (λ q. ap (λ (j : ℕ). distinct (monthsOf (heldBelow j p))) q ∙ e)
+    (λ h. distinct-down n k p (le-of-suc-le-suc h) (go (isFree p n) e))
+    (eq-or-lt-of-le l)
   where
     go : (x : Bool) → distinct (monthsOf (grown n p x)) ≡ true → distinct (monthsOf (heldBelow n p)) ≡ true
     go true d = d

@@ -22,8 +22,9 @@ use Rattle.pool.specs.declared.Pool.{Pool}
 use Rattle.pool.specs.declared.Found.{Found}
 use Rattle.pool.specs.declared.Found.the-variants.{At, Nothing}
 use Rattle.schedule.specs.Stored.{rateFound, storedRate}
-use Rattle.schedule.specs.Rates.{rateOption}
-use Rattle.schedule.specs.declared.rates.StoredRate.the-variants.{Rate, NoRate}
+use Rattle.ceiling.specs.Ceiling.{slotCeiling}
+use Rattle.ceiling.specs.declared.SlotCeiling.the-variants.{Rated, NoRate}
+use Rattle.ceiling.proofs.Laws.{rated-some, unrated-none}
 use Rattle.ramp.specs.Command.{goalOf, commandOver, moved, commandAfter, lastSecond}
 
 -- ---- seconds toward one goal
@@ -127,22 +128,16 @@ commandOver-same s p q store other (suc n) c x h =
     rw (h (suc c) (omega arith) (omega arith))
     (commandOver-same s p q store other n (suc c) (approach (goalOf s q other (slotOf (suc c))) x) (λ t a b. h t (omega arith) (omega arith)))
 
--- ---- the goal of the rate that was read
+-- ---- the goal of a slot's ceiling
 
 module _ (s : Settings) (o : Option ℕ) where
-  pub goal-rate : (r : ℕ) → rateOption o ≡ Rate r → partsOf s (percent s r) ≡ target s o
-  goal-rate r e = go o e
-    where
-      go : (o : Option ℕ) → rateOption o ≡ Rate r → partsOf s (percent s r) ≡ target s o
-      go none e = cc
-      go (some q) e = let same : q ≡ r = cc in ap (λ (k : ℕ). partsOf s (percent s k)) (sym same)
+  pub goal-rated : (r p : ℕ) → slotCeiling s o ≡ Rated r p → partsOf s p ≡ target s o
+  goal-rated r p e =
+      let w = rated-some s o r p e in
+      ap (partsOf s) (w .1) ∙ ap (target s) (sym (w .0))
 
-  pub goal-none : rateOption o ≡ NoRate → partsOf s (percent s 0) ≡ target s o
-  goal-none e = go o e
-    where
-      go : (o : Option ℕ) → rateOption o ≡ NoRate → partsOf s (percent s 0) ≡ target s o
-      go none e = refl
-      go (some q) e = cc
+  pub goal-none : slotCeiling s o ≡ NoRate → partsOf s (percent s 0) ≡ target s o
+  goal-none e = ap (target s) (sym (unrated-none s o e))
 
 -- ---- bytes, N at most 10: every goal is within a slot's reach
 

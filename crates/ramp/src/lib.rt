@@ -4,10 +4,10 @@ ghost use Prim.Native.Nat.{_+_, _-_, _*_};
 ghost use Rattle.rules.specs.Calendar.{slotLength};
 ghost use Rattle.plant.specs.Plant.{settingsOf};
 ghost use Rattle.ramp.specs.Command.{goalOf, commandOver, moved, lastSecond, InReach, commandAfter};
+use ceiling::SlotCeiling;
 use plant::Plant;
 use pool::Pool;
 use rules::SLOT_LENGTH;
-use schedule::StoredRate;
 
 // 'By at most 100' parts each second.
 const STEP: u64 = 100;
@@ -38,13 +38,13 @@ fn toward(goal: u64, seconds: u32, command: u64) -> u64
     }
 }
 
-// The parts that the command goes to in a slot.
+// The parts that the command goes to in a slot: those of its ceiling; 'no rate counts as r = 0'.
 fn goal_of(plant: Plant, pool: Pool, store: &[u8], slot: u32) -> u64
     ensures { λ r. ⌜ r ≡ goalOf (settingsOf plant) pool (now (store .entry)) slot ⌝ }
 {
-    match schedule::rate_at(pool, store, slot) {
-        StoredRate::Rate(rate) => plant.target(rate),
-        StoredRate::NoRate => plant.target(0),
+    match ceiling::of_slot(plant, pool, store, slot) {
+        SlotCeiling::Rated { percent, .. } => plant.parts(percent),
+        SlotCeiling::NoRate => plant.parts(plant.percent(0)),
     }
 }
 

@@ -1,4 +1,5 @@
 // The answers of calls as lines. Each function puts one line into the output and gives the place behind it.
+use calls::Reply;
 use rules::Answer;
 use rules::Cause;
 use rules::Ceiling;
@@ -6,7 +7,6 @@ use rules::Command;
 use rules::Due;
 use rules::FreeBlocks;
 use rules::Written;
-use taking::Reply;
 use unit::Unit;
 
 // '84 bytes' (01, Beside the unit).

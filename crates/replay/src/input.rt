@@ -105,7 +105,7 @@ fn answer(was: Reader, line: &[u8], store: &mut [u8], out: &mut [u8]) -> Reader 
         return was.next_line(progress.says(b"too long", out));
     }
     let length = most_of(was.length, line);
-    was.next_line(crate::calls::answer(progress, &line[..length], store, out))
+    was.next_line(crate::lines::answer(progress, &line[..length], store, out))
 }
 
 // The same, after what was answered is written out where room gets short.

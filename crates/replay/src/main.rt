@@ -2,8 +2,8 @@
 ghost use Prim.Native.Nat.{_<_};
 
 mod answers;
-mod calls;
 mod input;
+mod lines;
 mod progress;
 mod shown;
 mod stores;

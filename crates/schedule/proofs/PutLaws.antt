@@ -19,11 +19,12 @@ use Rattle.calendar.proofs.Laws.{first-slot-step, days-range}
 use Rattle.pool.specs.Blocks.{isFree, freeCount, given, findOf, takeOf}
 use Rattle.pool.specs.declared.Pool.{Pool}
 use Rattle.pool.specs.declared.Taken.{Taken}
+use Rattle.pool.specs.declared.Found.{Found}
 use Rattle.pool.specs.declared.Found.the-variants.{At, Nothing}
 use Rattle.pool.specs.declared.Place.{Place}
 use Rattle.pool.specs.declared.Place.the-variants.{In, Full}
-use Rattle.pool.proofs.Laws.{take-full, take-in}
-use Rattle.schedule.specs.Stored.{Stored, Piece, place, blank, opened, openBy, openMonth, layBy, layPiece, putPiece, pieceIn, canPut, putRun}
+use Rattle.pool.proofs.Laws.{found-none, take-full, take-in, take-left, take-found}
+use Rattle.schedule.specs.Stored.{Stored, Piece, place, blank, opened, openBy, openMonth, laid, layBy, layPiece, putPiece, pieceIn, canPut, putRun}
 use Rattle.schedule.specs.Rates.{storedOf, pieceOf}
 
 -- ---- taking a block
@@ -53,6 +54,16 @@ module _ (q : Taken) (p : Pool) (m : ℕ) (l : List ℕ) (e : q ≡ takeOf p m) 
   pub take-none : q .place ≡ Full → storedOf (q .pool) l ≡ openBy Nothing m (storedOf p l)
   take-none h = ap (λ (x : Place). opened (q .pool) x l) (sym h) ∙ ap (λ (t : Taken). opened (t .pool) (t .place) l) e
 
+-- the block that a month was given, and that it has
+module _ (q : Taken) (p : Pool) (m : ℕ) (e : q ≡ takeOf p m) (none : findOf p m ≡ Nothing) where
+  pub take-block : length (p .months) ≡ blockCount → (b : ℕ) → q .place ≡ In b → At b ≡ findOf (q .pool) m
+  take-block long b h =
+      sym (ap (λ (t : Taken). findOf (t .pool) m) e ∙ take-found p m long (found-none p m none) b (ap (λ (t : Taken). t .place) (sym e) ∙ h))
+
+  pub take-no-block : q .place ≡ Full → Nothing ≡ findOf (q .pool) m
+  take-no-block h =
+      sym (ap (λ (t : Taken). findOf (t .pool) m) e ∙ ap (λ (x : Pool). findOf x m) (take-left p m (ap (λ (t : Taken). t .place) (sym e) ∙ h)) ∙ none)
+
 -- ---- opening a month, laying a piece
 
 module _ (p : Pool) (m : ℕ) (l : List ℕ) where
@@ -64,14 +75,10 @@ module _ (p : Pool) (m : ℕ) (l : List ℕ) where
   unfolding openMonth
   open-new e = ap (λ f. openBy f m (storedOf p l)) (sym e)
 
-module _ (p : Pool) (q : Piece) (l : List ℕ) where
-  pub lay-found : (b : ℕ) (after : List ℕ) → findOf p (q .month) ≡ At b → after ≡ sets l (place b (q .from)) (rateBytes (q .rates)) → storedOf p after ≡ layPiece q (storedOf p l)
-  unfolding layPiece
-  lay-found b after e f = ap (storedOf p) f ∙ ap (λ x. layBy x q (storedOf p l)) (sym e)
-
-  pub lay-nothing : findOf p (q .month) ≡ Nothing → storedOf p l ≡ layPiece q (storedOf p l)
-  unfolding layPiece
-  lay-nothing e = ap (λ x. layBy x q (storedOf p l)) (sym e)
+-- a piece laid into the block that its month has
+pub lay-is : (p : Pool) (q : Piece) (l after : List ℕ) (f : Found) → f ≡ findOf p (q .month) → after ≡ laid f (q .from) (q .rates) l → storedOf p after ≡ layPiece q (storedOf p l)
+unfolding layPiece
+lay-is p q l after f e h = ap (storedOf p) h ∙ ap (λ x. layBy x q (storedOf p l)) e
 
 -- ---- a piece, and the part of a run in a month
 

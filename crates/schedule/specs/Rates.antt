@@ -1,14 +1,17 @@
 -- What the code's answers are in terms of `Stored`: a rate that may be missing, and values put together.
-use Prim.Native.Nat.{ℕ, suc, _+_, _-_, _%_, min}
+use Prim.Native.Nat.{ℕ, suc, _+_, _-_, _%_, _<_, min}
+use mathlib.Core.Path.{_≡_}
 use mathlib.Core.Bool.{Bool, cond, _&&_, _||_}
 use mathlib.Core.List.{List}
 use mathlib.Core.Option.{Option, none, some}
 use lib.Dec.{leb, eqb}
 use Rattle.rules.specs.Calendar.{firstSlot, monthOfSlot, slotCount}
 use Rattle.rules.specs.Body.{highestRate}
-use Rattle.rules.specs.Store.{storeLength, noRate, blockOf, soundBlock}
+use Rattle.rules.specs.Store.{storeLength, noRate, blockOf, soundBlock, blockCount}
 use Rattle.pool.specs.Blocks.{isFree, monthOf}
 use Rattle.pool.specs.declared.Pool.{Pool}
+use Rattle.pool.specs.declared.Found.{Found}
+use Rattle.pool.specs.declared.Found.the-variants.{At}
 use Rattle.schedule.specs.declared.rates.StoredRate.{StoredRate}
 use Rattle.schedule.specs.declared.rates.StoredRate.the-variants.{Rate, NoRate}
 use Rattle.schedule.specs.Stored.{Stored, Piece}
@@ -25,6 +28,10 @@ storedOf p store = record { pool = p; store = store }
 -- rates of month m from its slot `from` on
 abbrev pub pieceOf : ℕ → ℕ → List ℕ → Piece
 pieceOf m from rates = record { month = m; from = from; rates = rates }
+
+-- a block that is found stands in the store
+abbrev pub InStore : Found → Type 0
+InStore f = (b : ℕ) → f ≡ At b → b < blockCount
 
 -- `canPut` of n rates from slot s on and a store of so many bytes
 abbrev pub canPutCount : ℕ → ℕ → ℕ → Bool

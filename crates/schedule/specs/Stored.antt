@@ -63,10 +63,13 @@ openBy Nothing m s = opened (takeOf (s .pool) m .pool) (takeOf (s .pool) m .plac
 unfoldable pub openMonth : ℕ → Stored → Stored
 openMonth m s = openBy (findOf (s .pool) m) m s
 
--- 'byte i is the rate of its slot i'
+-- 'byte i is the rate of its slot i': rates of the block's slots from `from` on
+abbrev pub laid : Found → ℕ → List ℕ → List ℕ → List ℕ
+laid (At b) from rates store = sets store (place b from) (rateBytes rates)
+laid Nothing from rates store = store
+
 abbrev pub layBy : Found → Piece → Stored → Stored
-layBy (At b) q s = record { pool = s .pool; store = sets (s .store) (place b (q .from)) (rateBytes (q .rates)) }
-layBy Nothing q s = s
+layBy f q s = record { pool = s .pool; store = laid f (q .from) (q .rates) (s .store) }
 
 unfoldable pub layPiece : Piece → Stored → Stored
 layPiece q s = layBy (findOf (s .pool) (q .month)) q s

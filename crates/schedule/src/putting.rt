@@ -4,8 +4,9 @@ ghost use Prim.Native.Nat.{_+_, _^_, _≤_, _<_};
 ghost use lib.ListN.{length, replicate};
 ghost use Rattle.rules.specs.Calendar.{monthCount};
 ghost use Rattle.rules.specs.Store.{blockLength, storeLength, noRate, rateBytes};
-ghost use Rattle.schedule.specs.Stored.{openBy, openMonth, layPiece, putPiece, pieceIn, putRun};
-ghost use Rattle.schedule.specs.Rates.{storedOf, pieceOf, canPutCount};
+ghost use Rattle.pool.specs.Blocks.{findOf};
+ghost use Rattle.schedule.specs.Stored.{openBy, openMonth, laid, putPiece, pieceIn, putRun};
+ghost use Rattle.schedule.specs.Rates.{storedOf, pieceOf, canPutCount, InStore};
 use crate::layout::SLOT_COUNT;
 use crate::numbers::greater;
 use crate::numbers::lesser;
@@ -40,41 +41,53 @@ fn lay(to: &mut [u8], rates: &[u8])
     }
 }
 
+// A pool, and the block that a month has in it.
+struct Opened {
+    pool: Pool,
+    block: Found,
+}
+
 // 'A block newly taken is filled with 255 first'.
-fn take_block(pool: Pool, month: u16, store: &mut [u8]) -> Pool
-    requires { ⌜ length (now store) ≡ storeLength ⌝ }
-    ensures { λ r. ⌜ storedOf r (now (store .exit)) ≡ openBy Found.Nothing month (storedOf pool (now (store .entry))) ⌝ }
+fn take_block(pool: Pool, month: u16, store: &mut [u8]) -> Opened
+    requires { ⌜ (length (now store) ≡ storeLength) × (findOf pool month ≡ Found.Nothing) ⌝ }
+    ensures { λ r. ⌜ (storedOf (r .pool) (now (store .exit)) ≡ openBy Found.Nothing month (storedOf pool (now (store .entry)))) × (r .block ≡ findOf (r .pool) month) ⌝ }
 {
     let taken = pool.take(month);
     let place = taken.place;
+    let pool = taken.pool;
     match place {
         Place::In(b) => {
             let at = b * BLOCK_LENGTH;
             let end = at + BLOCK_LENGTH;
             blank(&mut store[at..end]);
-            taken.pool
+            let block = Found::At(b);
+            Opened { pool, block }
         }
-        Place::Full => taken.pool,
+        Place::Full => {
+            let block = Found::Nothing;
+            Opened { pool, block }
+        }
     }
 }
 
-// The month has its own block, or a free one.
-fn open_month(pool: Pool, month: u16, store: &mut [u8]) -> Pool
+// The month has its own block, or a free one: it is looked for once.
+fn open_month(pool: Pool, month: u16, store: &mut [u8]) -> Opened
     requires { ⌜ length (now store) ≡ storeLength ⌝ }
-    ensures { λ r. ⌜ storedOf r (now (store .exit)) ≡ openMonth month (storedOf pool (now (store .entry))) ⌝ }
+    ensures { λ r. ⌜ (storedOf (r .pool) (now (store .exit)) ≡ openMonth month (storedOf pool (now (store .entry)))) × (r .block ≡ findOf (r .pool) month) ⌝ }
 {
-    match pool.find(month) {
-        Found::At(_) => pool,
+    let block = pool.find(month);
+    match block {
+        Found::At(_) => Opened { pool, block },
         Found::Nothing => take_block(pool, month, store),
     }
 }
 
-// 'Byte i is the rate of its slot i': the rates of the month's slots from `from` on.
-fn lay_piece(pool: Pool, month: u16, from: usize, rates: &[u8], store: &mut [u8])
-    requires { ⌜ (length (now store) ≡ storeLength) × (from + length (now rates) ≤ blockLength) ⌝ }
-    ensures { λ _. ⌜ storedOf pool (now (store .exit)) ≡ layPiece (pieceOf month from (now (rates .entry))) (storedOf pool (now (store .entry))) ⌝ }
+// 'Byte i is the rate of its slot i': the rates of the block's slots from `from` on.
+fn lay_piece(block: Found, from: usize, rates: &[u8], store: &mut [u8])
+    requires { ⌜ (length (now store) ≡ storeLength) × (from + length (now rates) ≤ blockLength) × InStore block ⌝ }
+    ensures { λ _. ⌜ now (store .exit) ≡ laid block from (now (rates .entry)) (now (store .entry)) ⌝ }
 {
-    match pool.find(month) {
+    match block {
         Found::At(b) => {
             let at = b * BLOCK_LENGTH + from;
             let end = at + rates.len();
@@ -98,8 +111,9 @@ fn put_piece(
 {
     if (floor <= month) & (0 < rates.len()) {
         let opened = open_month(pool, month, store);
-        lay_piece(opened, month, from, rates, store);
-        opened
+        let block = opened.block;
+        lay_piece(block, from, rates, store);
+        opened.pool
     } else {
         pool
     }

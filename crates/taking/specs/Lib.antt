@@ -1,4 +1,2 @@
 pub mod Taken
 pub mod Taking
-pub mod Step
-pub mod Stepping

@@ -1,35 +1,36 @@
 -- What ceiling answers at each of its returns. Assumes nothing.
 use Prim.Native.Nat.{ℕ, _≤_, _<_}
-use mathlib.Core.Path.{_≡_, _∙_, refl, ap}
+use mathlib.Core.Path.{_≡_, _∙_, sym, ap}
 use mathlib.Core.Bool.{true, false, _&&_}
 use mathlib.Core.List.{List}
-use mathlib.Core.Option.{Option, none, some}
+use mathlib.Core.Option.{Option}
 use lib.ListN.{length}
 use borrow.Author.Tests.{eq-eqb, ne-eqb, lt-ltb, le-ltb}
 use Rattle.rules.specs.Calendar.{slotCount}
-use Rattle.rules.specs.Plant.{Settings, percent}
+use Rattle.rules.specs.Plant.{Settings}
 use Rattle.rules.specs.Store.{storeLength}
 use Rattle.rules.specs.Table.{firstOf}
 use Rattle.rules.specs.declared.Cause.{Cause}
 use Rattle.rules.specs.declared.Ceiling.{Ceiling}
 use Rattle.plant.specs.Plant.{settingsOf}
 use Rattle.schedule.specs.Stored.{storeHolds, storedRate}
-use Rattle.schedule.specs.Rates.{rateOption}
-use Rattle.schedule.specs.declared.rates.StoredRate.the-variants.{Rate, NoRate}
+use Rattle.ceiling.specs.Ceiling.{slotCeiling}
+use Rattle.ceiling.specs.declared.SlotCeiling.the-variants.{Rated, NoRate}
+use Rattle.ceiling.proofs.Laws.{rated-some, unrated-none}
 use Rattle.unit.specs.Values.{isSound}
 use Rattle.unit.specs.Calls.{ceilingAnswer, ceilingOf}
 use Rattle.unit.specs.declared.Unit.{Unit}
 use Rattle.unit.specs.declared.Clock.the-variants.{Unset, At}
 use Rattle.unit.proofs.LentLaws.{lent-row}
 
--- the answer by the rate that was read
-answer-rate : (s : Settings) (o : Option ℕ) (r : ℕ) → rateOption o ≡ Rate r → ceilingAnswer s o ≡ Ceiling.Rated r (percent s r)
-answer-rate s none r e = cc
-answer-rate s (some q) r e = let same : q ≡ r = cc in ap (λ (k : ℕ). Ceiling.Rated k (percent s k)) same
+-- the answer by the slot's ceiling
+answer-rated : (s : Settings) (o : Option ℕ) (r p : ℕ) → slotCeiling s o ≡ Rated r p → Ceiling.Rated r p ≡ ceilingAnswer s o
+answer-rated s o r p e =
+    let w = rated-some s o r p e in
+    ap (Ceiling.Rated r) (w .1) ∙ ap (ceilingAnswer s) (sym (w .0))
 
-answer-none : (s : Settings) (o : Option ℕ) → rateOption o ≡ NoRate → ceilingAnswer s o ≡ Ceiling.NoRate
-answer-none s none e = refl
-answer-none s (some q) e = cc
+answer-none : (s : Settings) (o : Option ℕ) → slotCeiling s o ≡ NoRate → Ceiling.NoRate ≡ ceilingAnswer s o
+answer-none s o e = ap (ceilingAnswer s) (sym (unrated-none s o e))
 
 module _ (u : Unit) (store : List ℕ) (slot : ℕ) where
   pub ceiling-length : (length store ≡ storeLength → ⊥) → ceilingOf u store slot ≡ Ceiling.Refused Cause.StoreLength
@@ -56,9 +57,10 @@ module _ (u : Unit) (store : List ℕ) (slot : ℕ) where
           unfolding ceilingOf firstOf
           answered = rw (eq-eqb (length store) storeLength long, lent-row u store true long good, set, lt-ltb slot slotCount below)
 
-          pub ceiling-rate : (r : ℕ) → rateOption (storedRate (u .pool) store slot) ≡ Rate r
-              → ceilingOf u store slot ≡ Ceiling.Rated r (percent (settingsOf (u .plant)) r)
-          ceiling-rate r e = answered ∙ answer-rate (settingsOf (u .plant)) (storedRate (u .pool) store slot) r e
+          pub ceiling-rated : (r p : ℕ) → slotCeiling (settingsOf (u .plant)) (storedRate (u .pool) store slot) ≡ Rated r p
+              → Ceiling.Rated r p ≡ ceilingOf u store slot
+          ceiling-rated r p e = answer-rated (settingsOf (u .plant)) (storedRate (u .pool) store slot) r p e ∙ sym answered
 
-          pub ceiling-none : rateOption (storedRate (u .pool) store slot) ≡ NoRate → ceilingOf u store slot ≡ Ceiling.NoRate
-          ceiling-none e = answered ∙ answer-none (settingsOf (u .plant)) (storedRate (u .pool) store slot) e
+          pub ceiling-none : slotCeiling (settingsOf (u .plant)) (storedRate (u .pool) store slot) ≡ NoRate
+              → Ceiling.NoRate ≡ ceilingOf u store slot
+          ceiling-none e = answer-none (settingsOf (u .plant)) (storedRate (u .pool) store slot) e ∙ sym answered

@@ -6,7 +6,7 @@ ghost use Rattle.unit.specs.Values.{clockOf, isSound, freshUnit, install
 ghost use Rattle.unit.specs.Calls.{refusal, lostOf, failureOf, dueOf, commandOf, freeOf};
 ghost use Rattle.unit.specs.Asked.{dueAsked, commandAsked, freeAsked};
 
-mod ceiling;
+mod ceiling_asked;
 mod requesting;
 mod tick;
 

@@ -15,9 +15,9 @@ use Rattle.name.proofs.read_as.Tie as tie
 long : (c : tie.Start) → length (now (c .args .name)) ≡ 55
 long c = name-shape (now (c .args .name)) (c .pre) .long
 
-lawful : (c : tie.After-is-date)
-    → lawfulName (nameFields (c .before .before .before .before .before .before .args .format) (now (c .before .before .before .before .before .before .args .name)))
-    ≡ (c .before .before .fits2 .result && c .is-date .result)
+lawful : (c : tie.After-is-date) →
+    let first = c .before .before .before .before .before .before in
+    lawfulName (nameFields (first .args .format) (now (first .args .name))) ≡ (c .before .before .fits2 .result && c .is-date .result)
 lawful c =
     let first = c .before .before .before .before .before .before in
     let f = c .before .before in
@@ -34,7 +34,10 @@ part-number-end : tie.Need-part-number-end
 part-number-end c = omega (arith, long (c .before))
 
 number-requires : tie.Need-number-requires
-number-requires c κs = let s = now (c .before .before .args .name) in (omega (arith, part-length s 4 4 (omega (arith, long (c .before .before)))), name-shape s (c .before .before .pre) .segment)
+number-requires c κs =
+    let first = c .before .before in
+    let s = now (first .args .name) in
+    (omega (arith, part-length s 4 4 (omega (arith, long first))), name-shape s (first .pre) .segment)
 
 fits-requires : tie.Need-fits-requires
 fits-requires c κs = search needs

@@ -44,7 +44,9 @@ part-number-end : tie.Need-part-number-end
 part-number-end c = omega (arith, name-shape _ (shape c) .long)
 
 number-requires : tie.Need-number-requires
-number-requires c κs = let t = name-shape (text (c .before)) (shape (c .before)) in (omega (arith, part-length (text (c .before)) 0 3 (omega (arith, t .long))), t .format)
+number-requires c κs =
+    let t = name-shape (text (c .before)) (shape (c .before)) in
+    (omega (arith, part-length (text (c .before)) 0 3 (omega (arith, t .long))), t .format)
 
 read-as-requires : tie.Need-read-as-requires
 read-as-requires c κs = shape (c .before .before .before)

@@ -1,48 +1,59 @@
--- `ramp::goal_of` meets its contract. Assumes nothing.
-use mathlib.Core.Path.{sym, _∙_}
+-- `ramp::goal_of` meets its contract.
+use mathlib.Core.Path.{sym, ap, _∙_}
 use denote.Ref.{now}
-use Rattle.schedule.specs.Stored.{storedRate}
-use Rattle.ramp.proofs.Laws.{goal-rate, goal-none}
+use Rattle.rules.specs.Plant.{partsOf}
 use Rattle.plant.specs.Plant.{settingsOf}
+use Rattle.schedule.specs.Stored.{storedRate}
+use Rattle.ramp.proofs.Laws.{goal-rated, goal-none}
 use borrow.Author.Needs.{needs}
 use Rattle.ramp.proofs.goal_of.Statement.{statement}
 use Rattle.ramp.proofs.goal_of.Tie as tie
 
-rate-at-requires : tie.Need-rate-at-requires
-rate-at-requires c κs = search needs
+of-slot-requires : tie.Need-of-slot-requires
+of-slot-requires c κs = search needs
 
-enum-known-rate : tie.Need-enum-known-rate
-enum-known-rate c = search needs
+enum-known-percent : tie.Need-enum-known-percent
+enum-known-percent c = search needs
 
-target-requires : tie.Need-target-requires
-target-requires c κs = search needs
+parts-requires : tie.Need-parts-requires
+parts-requires c κs = search needs
 
 enum-told : tie.Need-enum-told
 enum-told c = search needs
 
-target-requires-2 : tie.Need-target-requires-2
-target-requires-2 c κs = search needs
+percent-requires : tie.Need-percent-requires
+percent-requires c κs = search needs
+
+parts-requires-2 : tie.Need-parts-requires-2
+parts-requires-2 c κs = search needs
 
 returns : tie.Need-returns
 returns c =
-    let b = c .before .before .before .before .before in
-    let a = b .before .args in
-    c .target .ensures ∙ goal-rate (settingsOf (a .plant)) (storedRate (a .pool) (now (a .store)) (a .slot)) _ (sym (c .before .before .before .before .rate-at .ensures) ∙ c .before .before .rate .given .1)
+    let known = c .before .before in
+    let read = known .before .before in
+    let a = read .before .before .args in
+    c .parts .ensures
+    ∙ goal-rated (settingsOf (a .plant)) (storedRate (a .pool) (now (a .store)) (a .slot)) _ _ (sym (read .of-slot .ensures) ∙ known .percent .given .1)
 
 returns-2 : tie.Need-returns-2
 returns-2 c =
-    let b = c .before .before .before .before in
-    let a = b .before .args in
-    c .target2 .ensures ∙ goal-none (settingsOf (a .plant)) (storedRate (a .pool) (now (a .store)) (a .slot)) (sym (c .before .before .before .rate-at .ensures) ∙ c .before .enum-told .given .1)
+    let told = c .before .before in
+    let read = told .before .before in
+    let a = read .before .before .args in
+    let s = settingsOf (a .plant) in
+    c .parts2 .ensures
+    ∙ ap (partsOf s) (c .before .percent2 .ensures)
+    ∙ goal-none s (storedRate (a .pool) (now (a .store)) (a .slot)) (sym (read .of-slot .ensures) ∙ told .enum-told .given .1)
 
 pub goal-of-spec : {M : Type 1} → statement M
 goal-of-spec =
     tie.close
     (tie.spec
-    rate-at-requires
-    enum-known-rate
-    target-requires
+    of-slot-requires
+    enum-known-percent
+    parts-requires
     enum-told
-    target-requires-2
+    percent-requires
+    parts-requires-2
     returns
     returns-2)

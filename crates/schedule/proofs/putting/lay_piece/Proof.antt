@@ -1,34 +1,27 @@
--- `putting::lay_piece` meets its contract. Assumes nothing.
-use Prim.Native.Nat.{ℕ, _≤_, _<_, _+_, _*_}
-use mathlib.Core.Path.{_≡_, sym, ap, _∙_}
+-- `putting::lay_piece` meets its contract.
+use Prim.Native.Nat.{_≤_, _<_, _+_, _*_}
+use mathlib.Core.Path.{sym, ap, _∙_}
 use native.Mathlib.Omega.{arith}
 use denote.Ref.{now}
 use mathlib.Core.List.{List}
+use Prim.Native.Nat.{ℕ}
 use lib.ListN.{length}
 use lib.Seq.{sets}
 use borrow.Author.Needs.{needs}
 use Rattle.rules.specs.Store.{blockCount, blockLength}
-use Rattle.pool.specs.Blocks.{findOf}
-use Rattle.pool.specs.declared.Found.the-variants.{At}
-use Rattle.schedule.specs.Rates.{pieceOf}
+use Rattle.pool.specs.declared.Found.{Found}
+use Rattle.schedule.specs.Stored.{laid}
 use Rattle.schedule.proofs.Parts.{put-part}
-use Rattle.schedule.proofs.RateLaws.{find-below, bytes-length}
-use Rattle.schedule.proofs.PutLaws.{lay-found, lay-nothing}
+use Rattle.schedule.proofs.RateLaws.{bytes-length}
 use Rattle.schedule.proofs.putting.lay_piece.Statement.{statement}
 use Rattle.schedule.proofs.putting.lay_piece.Tie as tie
 
-find-requires : tie.Need-find-requires
-find-requires c κs = search needs
+enum-known-block : tie.Need-enum-known-block
+enum-known-block c = search needs
 
-enum-known-b : tie.Need-enum-known-b
-enum-known-b c = search needs
-
--- the block that was found
-at : (c : tie.After-known-told) → findOf (c .before .before .before .before .before .before .args .pool) (c .before .before .before .before .before .before .args .month) ≡ At (c .before .b .given .0 .0)
-at c = sym (c .before .before .before .find .ensures) ∙ c .before .b .given .1
-
-below : (c : tie.After-known-told) → c .before .b .given .0 .0 < blockCount
-below c = find-below _ _ _ (at c)
+-- the block stands in the store
+below : (c : tie.After-known-told) → c .before .block .given .0 .0 < blockCount
+below c = c .before .before .before .before .before .pre .2 _ (c .before .block .given .1)
 
 mul-at : tie.Need-mul-at
 mul-at c = omega (arith, below c)
@@ -59,27 +52,27 @@ same-length c = search needs
 
 returns : tie.Need-returns
 returns c =
-    let a = c .before .before .before .before .before .before .before .before .before .before .args in
-    let pre = c .before .before .before .before .before .before .before .before .before .before .pre in
-    let k = c .before .before .before .before in
-    let b = k .before .b .given .0 .0 in
+    let known = c .before .before .before .before in
+    let start = known .before .before .before .before .before in
+    let a = start .args in
+    let rates = now (a .rates) in
+    let store = now (a .store) in
+    let given = known .before .block .given in
+    let at = given .0 .0 * blockLength + a .from in
     let y = c .before .before .lay in
-    let room : b * blockLength + a .from + length (now (a .rates)) ≤ length (now (a .store)) = omega (arith, below k, pre) in
-    lay-found (a .pool) (pieceOf (a .month) (a .from) (now (a .rates))) (now (a .store)) b _ (at k)
-    (put-part (now (a .store)) (y .last .0) (b * blockLength + a .from) (length (now (a .rates))) (ap length (y .ensures) ∙ bytes-length (now (a .rates))) room
-    ∙ ap (λ (vs : List ℕ). sets (now (a .store)) (b * blockLength + a .from) vs) (y .ensures))
+    let room : at + length rates ≤ length store = omega (arith, below known, start .pre .0, start .pre .1) in
+    put-part store (y .last .0) at (length rates) (ap length (y .ensures) ∙ bytes-length rates) room
+    ∙ ap (λ (vs : List ℕ). sets store at vs) (y .ensures)
+    ∙ ap (λ (f : Found). laid f (a .from) rates store) (sym (given .1))
 
 returns-2 : tie.Need-returns-2
-returns-2 c =
-    let a = c .before .before .before .before .before .args in
-    lay-nothing (a .pool) (pieceOf (a .month) (a .from) (now (a .rates))) (now (a .store)) (sym (c .before .before .find .ensures) ∙ c .enum-told .given .1)
+returns-2 c = search needs
 
 pub lay-piece-spec : {M : Type 1} → statement M
 lay-piece-spec =
     tie.close
     (tie.spec
-    find-requires
-    enum-known-b
+    enum-known-block
     mul-at
     add-at
     add-end

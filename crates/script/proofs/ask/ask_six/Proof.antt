@@ -26,14 +26,12 @@ install-ask-requires c κs = search needs
 returns : tie.Need-returns
 unfolding askSix
 returns c =
-    let e1 = sym (c .before .before .before .before .before .same .ensures) ∙ c .before .before .before .before .if1 .taken in
-    rw (e1) (c .install-ask .ensures ∙ cc)
+    let taken = c .before .before .before .before in
+    rw (sym (taken .before .same .ensures) ∙ taken .if1 .taken) (c .install-ask .ensures ∙ cc)
 
 returns-2 : tie.Need-returns-2
 unfolding askSix
-returns-2 c =
-    let e1 = sym (c .before .same .ensures) ∙ c .if1 .left in
-    rw (e1) refl
+returns-2 c = rw (sym (c .before .same .ensures) ∙ c .if1 .left) refl
 
 pub ask-six-spec : {M : Type 1} → statement M
 ask-six-spec =

@@ -1,0 +1,4 @@
+pub mod Lists
+pub mod Exports
+pub mod FromC
+pub mod ApartFromC

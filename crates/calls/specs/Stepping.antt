@@ -1,0 +1,90 @@
+-- A call given to the code as a value: what `calls::step` returns and leaves, and that it is the step which the theorem about every list of calls runs.
+use Prim.Native.Nat.{ℕ}
+use mathlib.Core.Path.{_≡_}
+use mathlib.Core.List.{List}
+use Rattle.rules.specs.Causes.{Reply as MachineReply, ofAnswer, ofDue, ofCeiling, ofCommand, ofFreeBlocks}
+use Rattle.rules.specs.Machine.{Call as MachineCall, tick, clockLost, fileTaken, failure, due, ceilingOf, command, freeBlocks}
+use Rattle.unit.specs.Calls.{tickOf, lostOf, failureOf}
+use Rattle.taking.specs.Taken.{takeOf, storeAfterTake}
+use Rattle.unit.specs.Asked.{dueAsked, ceilingAsked, commandAsked, freeAsked}
+use Rattle.calls.specs.Step.{Step, step}
+use Rattle.unit.specs.declared.Unit.{Unit}
+use Rattle.unit.specs.declared.Done.{Done as UnitDone}
+use Rattle.unit.specs.declared.DueAsked.{DueAsked}
+use Rattle.unit.specs.declared.CeilingAsked.{CeilingAsked}
+use Rattle.unit.specs.declared.CommandAsked.{CommandAsked}
+use Rattle.unit.specs.declared.FreeAsked.{FreeAsked}
+use Rattle.calls.specs.declared.Call.{Call}
+use Rattle.calls.specs.declared.Reply.{Reply}
+use Rattle.calls.specs.declared.Stepped.{Stepped}
+
+-- ---- what the code returns and leaves
+
+abbrev pub answered : UnitDone → Stepped
+answered d = record { unit = d .unit; reply = Reply.Done (d .answer) }
+
+abbrev pub dueReplied : DueAsked → Stepped
+dueReplied a = record { unit = a .unit; reply = Reply.Due (a .answer) }
+
+abbrev pub ceilingReplied : CeilingAsked → Stepped
+ceilingReplied a = record { unit = a .unit; reply = Reply.Ceiling (a .answer) }
+
+abbrev pub commandReplied : CommandAsked → Stepped
+commandReplied a = record { unit = a .unit; reply = Reply.Command (a .answer) }
+
+abbrev pub freeReplied : FreeAsked → Stepped
+freeReplied a = record { unit = a .unit; reply = Reply.Blocks (a .answer) }
+
+-- each call is answered as its own method answers; only a file looks at name and body
+abbrev pub steppedOf : Unit → Call → List ℕ → List ℕ → List ℕ → Stepped
+steppedOf u (Call.Tick t) name body store = answered (tickOf u store t)
+steppedOf u Call.ClockLost name body store = answered (lostOf u)
+steppedOf u Call.File name body store = answered (takeOf u store name body)
+steppedOf u (Call.Failure kind status) name body store = answered (failureOf u kind status)
+steppedOf u Call.Due name body store = dueReplied (dueAsked u)
+steppedOf u (Call.Ceiling slot) name body store = ceilingReplied (ceilingAsked u store slot)
+steppedOf u Call.Command name body store = commandReplied (commandAsked u)
+steppedOf u Call.FreeBlocks name body store = freeReplied (freeAsked u)
+
+-- 'File taken alone writes to it'
+abbrev pub storeOf : Unit → Call → List ℕ → List ℕ → List ℕ → List ℕ
+storeOf u (Call.Tick t) name body store = store
+storeOf u Call.ClockLost name body store = store
+storeOf u Call.File name body store = storeAfterTake u store name body
+storeOf u (Call.Failure kind status) name body store = store
+storeOf u Call.Due name body store = store
+storeOf u (Call.Ceiling slot) name body store = store
+storeOf u Call.Command name body store = store
+storeOf u Call.FreeBlocks name body store = store
+
+-- ---- in the machine's words
+
+-- the machine's call: a file is its name and body
+abbrev pub callOf : Call → List ℕ → List ℕ → MachineCall
+callOf (Call.Tick t) name body = tick t
+callOf Call.ClockLost name body = clockLost
+callOf Call.File name body = fileTaken name body
+callOf (Call.Failure kind status) name body = failure kind status
+callOf Call.Due name body = due
+callOf (Call.Ceiling slot) name body = ceilingOf slot
+callOf Call.Command name body = command
+callOf Call.FreeBlocks name body = freeBlocks
+
+-- the machine's reply
+abbrev pub replyOf : Reply → MachineReply
+replyOf (Reply.Done a) = ofAnswer a
+replyOf (Reply.Due a) = ofDue a
+replyOf (Reply.Ceiling a) = ofCeiling a
+replyOf (Reply.Command a) = ofCommand a
+replyOf (Reply.Blocks a) = ofFreeBlocks a
+
+-- the reply, unit and store after the call
+abbrev pub stepOf : Unit → Call → List ℕ → List ℕ → List ℕ → Step
+stepOf u call name body store =
+    (replyOf (steppedOf u call name body store .reply), record { unit = steppedOf u call name body store .unit; store = storeOf u call name body store })
+
+-- for every unit, call and store it is `step`, which the theorem runs
+abbrev pub StepsAgree : Type 0
+StepsAgree =
+    (u : Unit) (call : Call) (name body store : List ℕ)
+    → stepOf u call name body store ≡ step (callOf call name body) (record { unit = u; store = store })
