@@ -6,8 +6,8 @@ use native.Mathlib.Omega.{arith}
 use borrow.Author.Needs.{needs}
 use lib.ListN.{length-map}
 use denote.Ref.{now}
-use Rattle.digits.proofs.Scan.{part-rest}
-use Rattle.script_fields.specs.Field.{marked, plainByte, hexField, fieldIn, bufferWith}
+use Rattle.laws.proofs.Bytes.{part-rest}
+use Rattle.script_fields.specs.Field.{marked, plainByte, hexField}
 use Rattle.script_fields.proofs.FieldLaws.{says-none, says-same, says-long, says-put, marked-long, is-hex, no-word, is-plain}
 use Rattle.script_fields.proofs.field.either.Statement.{statement}
 use Rattle.script_fields.proofs.field.either.Tie as tie
