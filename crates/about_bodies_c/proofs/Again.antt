@@ -1,5 +1,4 @@
 -- A body that C reads, takes apart and writes again is itself.
--- Assumes nothing.
 use Prim.Native.Nat.{ℕ, zero, suc, _≤_, _<_}
 use mathlib.Core.Path.{_≡_, _∙_, refl, sym, ap, subst}
 use mathlib.Core.Bool.{true, false≢true}

@@ -1,4 +1,4 @@
--- Each exported contract is the step from C: where a contract in crates/jagwelu is changed, this is refused. Assumes nothing.
+-- Each exported contract is the step from C: where a contract in crates/jagwelu is changed, this is refused.
 use mathlib.Core.Path.{ap, ap₂}
 use denote.Ref.{now}
 use Rattle.c_structs.specs.declared.structs.Handed.{Handed}

@@ -1,4 +1,4 @@
--- A list of calls from C is the unit's own: call by call, then over the list. Assumes nothing.
+-- A list of calls from C is the unit's own: call by call, then over the list.
 use Prim.Native.Nat.{ℕ}
 use mathlib.Core.Path.{_≡_, refl, sym, ap, _∙_}
 use mathlib.Core.Bool.{Bool, true, false, false≢true}

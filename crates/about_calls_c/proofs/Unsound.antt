@@ -1,4 +1,4 @@
--- A struct that stands for a unit that is not sound: every call is refused, with struct and store as they were. Assumes nothing.
+-- A struct that stands for a unit that is not sound: every call is refused, with struct and store as they were.
 use Prim.Native.Nat.{ℕ}
 use mathlib.Core.Path.{_≡_, refl, ap}
 use mathlib.Core.Bool.{Bool, true, false}

@@ -1,4 +1,4 @@
--- The struct that C holds: proofs of what specs/Handing says. Assumes nothing.
+-- The struct that C holds: proofs of what specs/Handing says.
 use Prim.Native.Nat.{ℕ}
 use mathlib.Core.Path.{_≡_, refl, ap, sym, _∙_}
 use mathlib.Core.Bool.{Bool, true, false, cond, _&&_, false≢true}

@@ -1,4 +1,4 @@
--- Clocks of C's fields, and what a call hands back. Assumes nothing.
+-- Clocks of C's fields, and what a call hands back.
 use Prim.Native.Nat.{ℕ}
 use mathlib.Core.Path.{_≡_, refl}
 use mathlib.Core.Bool.{true, false, _&&_}

@@ -1,4 +1,4 @@
--- A body taken apart by the number of its format. Assumes nothing.
+-- A body taken apart by the number of its format.
 use Prim.Native.Nat.{ℕ}
 use mathlib.Core.Path.{_≡_, _∙_, refl, sym, ap}
 use mathlib.Core.List.{List}

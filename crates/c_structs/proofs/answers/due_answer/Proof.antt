@@ -1,4 +1,4 @@
--- `c_structs::answers::due_answer` meets its contract. Assumes nothing.
+-- `c_structs::answers::due_answer` meets its contract.
 use Rattle.c_structs.specs.Answers.{dueNumbers}
 use mathlib.Core.Path.{sym, ap}
 use borrow.Author.Needs.{needs}

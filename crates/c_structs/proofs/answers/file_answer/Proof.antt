@@ -1,4 +1,4 @@
--- `c_structs::answers::file_answer` meets its contract. Assumes nothing.
+-- `c_structs::answers::file_answer` meets its contract.
 use Rattle.c_structs.specs.Answers.{noFile, fileNumbers}
 use mathlib.Core.Path.{sym, ap, _∙_}
 use borrow.Author.Needs.{needs}

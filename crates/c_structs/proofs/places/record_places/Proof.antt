@@ -1,4 +1,4 @@
--- `c_structs::places::record_places` meets its contract. Assumes nothing.
+-- `c_structs::places::record_places` meets its contract.
 use mathlib.Core.Path.{sym, ap, _∙_}
 use borrow.Author.Needs.{needs}
 use Rattle.c_structs.specs.Places.{noPlaces, placesNumbers}

@@ -1,4 +1,4 @@
--- `c_structs::structs::clock_from` meets its contract. Assumes nothing.
+-- `c_structs::structs::clock_from` meets its contract.
 use Rattle.c_structs.proofs.Laws.{clock-set, clock-unset, clock-never}
 use Rattle.c_structs.proofs.structs.clock_from.Statement.{statement}
 use Rattle.c_structs.proofs.structs.clock_from.Tie as tie

@@ -1,4 +1,4 @@
--- `c_structs::structs::hand` meets its contract. Assumes nothing.
+-- `c_structs::structs::hand` meets its contract.
 use Rattle.c_structs.proofs.Laws.{handed-accepted, handed-refused}
 use borrow.Author.Needs.{needs}
 use Rattle.c_structs.proofs.structs.hand.Statement.{statement}

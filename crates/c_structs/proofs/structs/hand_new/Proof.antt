@@ -1,4 +1,4 @@
--- `c_structs::structs::hand_new` meets its contract. Assumes nothing.
+-- `c_structs::structs::hand_new` meets its contract.
 use Rattle.c_structs.specs.Held.{newly}
 use mathlib.Core.Path.{refl}
 use borrow.Author.Needs.{needs}

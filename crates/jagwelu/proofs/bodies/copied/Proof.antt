@@ -1,4 +1,4 @@
--- `bodies::copied` meets its contract. Assumes nothing.
+-- `bodies::copied` meets its contract.
 use mathlib.Core.Path.{_∙_, sym}
 use denote.Ref.{now}
 use Rattle.rules.specs.Name.{formatOf}

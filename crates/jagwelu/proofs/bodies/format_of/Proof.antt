@@ -1,4 +1,4 @@
--- `bodies::format_of` meets its contract. Assumes nothing.
+-- `bodies::format_of` meets its contract.
 use Rattle.jagwelu.proofs.Apart.{is-201, is-202, is-203, is-301, is-none}
 use Rattle.jagwelu.proofs.bodies.format_of.Statement.{statement}
 use Rattle.jagwelu.proofs.bodies.format_of.Tie as tie

@@ -1,4 +1,4 @@
--- `jag_copy_rates` meets its contract. Assumes nothing.
+-- `jag_copy_rates` meets its contract.
 
 use borrow.Author.Needs.{needs}
 use Rattle.jagwelu.proofs.bodies.jag_copy_rates.Statement.{statement}

@@ -1,4 +1,4 @@
--- `jag_record` meets its contract. Assumes nothing.
+-- `jag_record` meets its contract.
 
 use borrow.Author.Needs.{needs}
 use Rattle.jagwelu.proofs.bodies.jag_record.Statement.{statement}

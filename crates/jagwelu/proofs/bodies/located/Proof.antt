@@ -1,4 +1,4 @@
--- `bodies::located` meets its contract. Assumes nothing.
+-- `bodies::located` meets its contract.
 use mathlib.Core.Path.{_∙_, sym}
 use Rattle.rules.specs.Name.{formatOf}
 use Rattle.jagwelu.proofs.Apart.{located-known, located-unknown}
