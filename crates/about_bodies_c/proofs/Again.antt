@@ -30,7 +30,7 @@ use Rattle.records.specs.Reading.{fieldIn, recordIn, ratesOutput}
 use Rattle.records.specs.declared.Located.{Located}
 use Rattle.records.specs.declared.Located.the-variants.{At}
 use Rattle.records.specs.declared.Field.the-variants.{Schedule, Plant, Start, Next}
-use Rattle.c_structs.specs.Answers.{fileNumbers, writtenNumbers}
+use Rattle.c_answers.specs.Answers.{fileNumbers, writtenNumbers}
 use Rattle.c_structs.specs.Places.{placesNumbers}
 use Rattle.c_structs.specs.declared.places.RecordPlaces.{RecordPlaces}
 use Rattle.jagwelu.specs.Bodies.{locateBy, ratesBy}

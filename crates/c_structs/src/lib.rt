@@ -1,20 +1,7 @@
-// The unit and the answers as C gets them: structs of fixed layout, the unit that one stands for, and what a call hands back.
-mod answers;
+// The unit as C holds it: a struct of fixed layout, the unit that it stands for, and what a call hands back; and where a record's fields stand.
 mod places;
 mod structs;
 
-pub use answers::CeilingAnswer;
-pub use answers::DueAnswer;
-pub use answers::ErrorAnswer;
-pub use answers::FileAnswer;
-pub use answers::Number;
-pub use answers::WrittenBytes;
-pub use answers::blocks_number;
-pub use answers::ceiling_answer;
-pub use answers::command_number;
-pub use answers::due_answer;
-pub use answers::file_answer;
-pub use answers::written_bytes;
 pub use places::RecordPlaces;
 pub use places::record_places;
 pub use structs::Handed;

@@ -3,11 +3,11 @@ ghost use mathlib.Core.Path.{_≡_};
 ghost use lib.ListN.{length};
 ghost use Rattle.rules.specs.Name.{formatOf};
 ghost use Rattle.rules.specs.Writer.{writtenOf, bufferAfter};
-ghost use Rattle.c_structs.specs.Answers.{writtenNumbers};
+ghost use Rattle.c_answers.specs.Answers.{writtenNumbers};
 ghost use Rattle.c_structs.specs.Places.{placesNumbers};
 ghost use Rattle.jagwelu.specs.Bodies.{foundOf, locateBy, ratesBy};
+use c_answers::WrittenBytes;
 use c_structs::RecordPlaces;
-use c_structs::WrittenBytes;
 use records::Located;
 use rules::Cause;
 use rules::Format;
@@ -72,5 +72,5 @@ pub extern "C" fn jag_copy_rates(format: u32, body: &[u8], out: &mut [u8]) -> Wr
     ensures buffer { λ _. ⌜ now (out .exit) ≡ bufferAfter (ratesBy (formatOf format) (now (body .entry)) (length (now (out .entry)))) (now (out .entry)) ⌝ }
 {
     let written = copied(format, body, out);
-    c_structs::written_bytes(written)
+    c_answers::written_bytes(written)
 }

@@ -1,9 +1,9 @@
--- `c_structs::answers::blocks_number` meets its contract. Assumes nothing.
-use Rattle.c_structs.specs.Answers.{blocksNumber}
+-- `c_answers::blocks_number` meets its contract. Assumes nothing.
+use Rattle.c_answers.specs.Answers.{blocksNumber}
 use mathlib.Core.Path.{sym, ap}
 use borrow.Author.Needs.{needs}
-use Rattle.c_structs.proofs.answers.blocks_number.Statement.{statement}
-use Rattle.c_structs.proofs.answers.blocks_number.Tie as tie
+use Rattle.c_answers.proofs.blocks_number.Statement.{statement}
+use Rattle.c_answers.proofs.blocks_number.Tie as tie
 
 enum-known-free : tie.Need-enum-known-free
 enum-known-free c = search needs

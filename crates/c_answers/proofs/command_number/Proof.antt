@@ -1,9 +1,9 @@
--- `c_structs::answers::command_number` meets its contract. Assumes nothing.
-use Rattle.c_structs.specs.Answers.{commandNumber}
+-- `c_answers::command_number` meets its contract. Assumes nothing.
+use Rattle.c_answers.specs.Answers.{commandNumber}
 use mathlib.Core.Path.{sym, ap}
 use borrow.Author.Needs.{needs}
-use Rattle.c_structs.proofs.answers.command_number.Statement.{statement}
-use Rattle.c_structs.proofs.answers.command_number.Tie as tie
+use Rattle.c_answers.proofs.command_number.Statement.{statement}
+use Rattle.c_answers.proofs.command_number.Tie as tie
 
 enum-known-command : tie.Need-enum-known-command
 enum-known-command c = search needs

@@ -1,9 +1,9 @@
--- `c_structs::answers::ceiling_answer` meets its contract. Assumes nothing.
-use Rattle.c_structs.specs.Answers.{ceilingNumbers}
+-- `c_answers::ceiling_answer` meets its contract. Assumes nothing.
+use Rattle.c_answers.specs.Answers.{ceilingNumbers}
 use mathlib.Core.Path.{sym, ap}
 use borrow.Author.Needs.{needs}
-use Rattle.c_structs.proofs.answers.ceiling_answer.Statement.{statement}
-use Rattle.c_structs.proofs.answers.ceiling_answer.Tie as tie
+use Rattle.c_answers.proofs.ceiling_answer.Statement.{statement}
+use Rattle.c_answers.proofs.ceiling_answer.Tie as tie
 
 enum-known-ceiling : tie.Need-enum-known-ceiling
 enum-known-ceiling c = search needs

@@ -11,12 +11,12 @@ use Rattle.rules.specs.declared.FreeBlocks.{FreeBlocks}
 use Rattle.rules.specs.declared.Written.{Written}
 use Rattle.rules.specs.declared.Reading.{Reading}
 use Rattle.rules.specs.declared.ErrorCode.{ErrorCode}
-use Rattle.c_structs.specs.declared.answers.Number.{Number}
-use Rattle.c_structs.specs.declared.answers.WrittenBytes.{WrittenBytes}
-use Rattle.c_structs.specs.declared.answers.DueAnswer.{DueAnswer}
-use Rattle.c_structs.specs.declared.answers.CeilingAnswer.{CeilingAnswer}
-use Rattle.c_structs.specs.declared.answers.FileAnswer.{FileAnswer}
-use Rattle.c_structs.specs.declared.answers.ErrorAnswer.{ErrorAnswer}
+use Rattle.c_answers.specs.declared.Number.{Number}
+use Rattle.c_answers.specs.declared.WrittenBytes.{WrittenBytes}
+use Rattle.c_answers.specs.declared.DueAnswer.{DueAnswer}
+use Rattle.c_answers.specs.declared.CeilingAnswer.{CeilingAnswer}
+use Rattle.c_answers.specs.declared.FileAnswer.{FileAnswer}
+use Rattle.c_answers.specs.declared.ErrorAnswer.{ErrorAnswer}
 
 abbrev pub dueBy : ℕ → ℕ → ℕ → DueAnswer
 dueBy cause kind flag = record { cause = cause; kind = kind; flag = flag }

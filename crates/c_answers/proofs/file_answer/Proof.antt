@@ -1,9 +1,9 @@
--- `c_structs::answers::file_answer` meets its contract. Assumes nothing.
-use Rattle.c_structs.specs.Answers.{noFile, fileNumbers}
+-- `c_answers::file_answer` meets its contract. Assumes nothing.
+use Rattle.c_answers.specs.Answers.{noFile, fileNumbers}
 use mathlib.Core.Path.{sym, ap, _∙_}
 use borrow.Author.Needs.{needs}
-use Rattle.c_structs.proofs.answers.file_answer.Statement.{statement}
-use Rattle.c_structs.proofs.answers.file_answer.Tie as tie
+use Rattle.c_answers.proofs.file_answer.Statement.{statement}
+use Rattle.c_answers.proofs.file_answer.Tie as tie
 
 enum-known-reading : tie.Need-enum-known-reading
 enum-known-reading c = search needs

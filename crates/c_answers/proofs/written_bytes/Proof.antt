@@ -1,9 +1,9 @@
--- `c_structs::answers::written_bytes` meets its contract. Assumes nothing.
-use Rattle.c_structs.specs.Answers.{writtenNumbers}
+-- `c_answers::written_bytes` meets its contract. Assumes nothing.
+use Rattle.c_answers.specs.Answers.{writtenNumbers}
 use mathlib.Core.Path.{sym, ap}
 use borrow.Author.Needs.{needs}
-use Rattle.c_structs.proofs.answers.written_bytes.Statement.{statement}
-use Rattle.c_structs.proofs.answers.written_bytes.Tie as tie
+use Rattle.c_answers.proofs.written_bytes.Statement.{statement}
+use Rattle.c_answers.proofs.written_bytes.Tie as tie
 
 enum-known-written : tie.Need-enum-known-written
 enum-known-written c = search needs

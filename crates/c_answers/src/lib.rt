@@ -1,6 +1,6 @@
 // The answers of questions, of reading and of writing, as C gets them: 0 or a cause's number, and numbers that are 0 where it is refused.
 ghost use mathlib.Core.Path.{_≡_};
-ghost use Rattle.c_structs.specs.Answers.{dueNumbers, ceilingNumbers, commandNumber, blocksNumber, writtenNumbers, noFile, fileNumbers};
+ghost use Rattle.c_answers.specs.Answers.{dueNumbers, ceilingNumbers, commandNumber, blocksNumber, writtenNumbers, noFile, fileNumbers};
 use rules::Ceiling;
 use rules::Command;
 use rules::Due;

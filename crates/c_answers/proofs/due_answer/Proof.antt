@@ -1,9 +1,9 @@
--- `c_structs::answers::due_answer` meets its contract. Assumes nothing.
-use Rattle.c_structs.specs.Answers.{dueNumbers}
+-- `c_answers::due_answer` meets its contract. Assumes nothing.
+use Rattle.c_answers.specs.Answers.{dueNumbers}
 use mathlib.Core.Path.{sym, ap}
 use borrow.Author.Needs.{needs}
-use Rattle.c_structs.proofs.answers.due_answer.Statement.{statement}
-use Rattle.c_structs.proofs.answers.due_answer.Tie as tie
+use Rattle.c_answers.proofs.due_answer.Statement.{statement}
+use Rattle.c_answers.proofs.due_answer.Tie as tie
 
 enum-told : tie.Need-enum-told
 enum-told c = search needs
