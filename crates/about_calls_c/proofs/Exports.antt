@@ -1,7 +1,7 @@
 -- Each exported contract is the step from C: where a contract in crates/jagwelu is changed, this is refused. Assumes nothing.
 use mathlib.Core.Path.{ap, ap₂}
 use denote.Ref.{now}
-use Rattle.c_structs.specs.declared.structs.Handed.{Handed}
+use Rattle.c_structs.specs.declared.Handed.{Handed}
 use Rattle.c_answers.specs.declared.Number.{Number}
 use Rattle.c_answers.specs.declared.DueAnswer.{DueAnswer}
 use Rattle.c_answers.specs.declared.CeilingAnswer.{CeilingAnswer}

@@ -14,9 +14,9 @@ use Rattle.rules.specs.declared.Kind.{Kind}
 use Rattle.unit.specs.Request.{requestOf}
 use Rattle.c_structs.specs.Held.{settingsIn, opened}
 use Rattle.c_answers.specs.Answers.{writtenNumbers}
-use Rattle.c_structs.specs.declared.structs.HeldSettings.{HeldSettings}
-use Rattle.c_structs.specs.declared.structs.HeldUnit.{HeldUnit}
-use Rattle.c_structs.specs.declared.structs.Handed.{Handed}
+use Rattle.c_structs.specs.declared.HeldSettings.{HeldSettings}
+use Rattle.c_structs.specs.declared.HeldUnit.{HeldUnit}
+use Rattle.c_structs.specs.declared.Handed.{Handed}
 use Rattle.c_answers.specs.declared.Number.{Number}
 use Rattle.c_answers.specs.declared.DueAnswer.{DueAnswer}
 use Rattle.c_answers.specs.declared.CeilingAnswer.{CeilingAnswer}

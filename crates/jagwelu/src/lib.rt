@@ -1,11 +1,10 @@
 // What C calls (include/jagwelu.h): the unit's calls over a struct that C holds, and files read and written without a unit.
-mod bodies;
-
 ghost use mathlib.Core.Path.{_≡_};
 ghost use mathlib.Core.Option.{none, some};
 ghost use lib.ListN.{length};
 ghost use Rattle.rules.specs.ErrorFile.{errorCode, codeOf};
 ghost use Rattle.rules.specs.File.{readFile};
+ghost use Rattle.rules.specs.Name.{formatOf};
 ghost use Rattle.rules.specs.Reading.{readingOf};
 ghost use Rattle.rules.specs.Writer.{writeBody, writtenOf, bufferAfter};
 ghost use Rattle.rules.specs.declared.Kind.{Kind as KindOf};
@@ -15,16 +14,17 @@ ghost use Rattle.unit.specs.Request.{requestOf};
 ghost use Rattle.unit.specs.Values.{installedUnit};
 ghost use Rattle.plan.specs.Fields.{fieldsOf};
 ghost use Rattle.c_structs.specs.Held.{settingsIn, opened, handed, newly};
+ghost use Rattle.c_bodies.specs.Bodies.{locateBy, ratesBy};
+ghost use Rattle.c_bodies.specs.Places.{placesNumbers};
 ghost use Rattle.jagwelu.specs.Check.{checkNumber};
 ghost use Rattle.c_answers.specs.Answers.{dueNumbers, ceilingNumbers, commandNumber, blocksNumber, writtenNumbers, fileNumbers, errorNumbers};
-pub use bodies::jag_copy_rates;
-pub use bodies::jag_record;
 use c_answers::CeilingAnswer;
 use c_answers::DueAnswer;
 use c_answers::ErrorAnswer;
 use c_answers::FileAnswer;
 use c_answers::Number;
 use c_answers::WrittenBytes;
+use c_bodies::RecordPlaces;
 use c_structs::Handed;
 use c_structs::HeldSettings;
 use c_structs::HeldUnit;
@@ -183,6 +183,23 @@ pub extern "C" fn jag_read_for(plant: &[u8], name: &[u8], body: &[u8]) -> FileAn
 {
     let reading = transfer::read_for(plant, name, body);
     c_answers::file_answer(reading)
+}
+
+#[no_mangle]
+pub extern "C" fn jag_record(format: u32, body: &[u8], index: usize) -> RecordPlaces
+    ensures { λ r. ⌜ r ≡ placesNumbers (locateBy (formatOf format) (now (body .entry)) index) ⌝ }
+{
+    let found = c_bodies::located(format, body, index);
+    c_bodies::record_places(found)
+}
+
+#[no_mangle]
+pub extern "C" fn jag_copy_rates(format: u32, body: &[u8], out: &mut [u8]) -> WrittenBytes
+    ensures answer { λ r. ⌜ r ≡ writtenNumbers (writtenOf (ratesBy (formatOf format) (now (body .entry)) (length (now (out .entry))))) ⌝ }
+    ensures buffer { λ _. ⌜ now (out .exit) ≡ bufferAfter (ratesBy (formatOf format) (now (body .entry)) (length (now (out .entry)))) (now (out .entry)) ⌝ }
+{
+    let written = c_bodies::copied(format, body, out);
+    c_answers::written_bytes(written)
 }
 
 #[no_mangle]
