@@ -1,7 +1,7 @@
 -- Every law of specs/Alike, proved: this is the file to cite. Assumes nothing.
 use Prim.Native.Nat.{ℕ, _*_, _≤_}
 use mathlib.Core.Path.{_≡_, refl, sym, ap, _∙_, subst, subst₂}
-use mathlib.Core.Bool.{true, false≢true}
+use mathlib.Core.Bool.{true, false≢true, and-false}
 use mathlib.Core.List.{List, [], _∷_}
 use native.Mathlib.Omega.{arith}
 use lib.Dec.{leb}
@@ -17,7 +17,6 @@ use Rattle.pool.specs.Held.{InBlock, Sound}
 use Rattle.pool.proofs.SoundLaws.{pool-facts}
 use Rattle.schedule.specs.Stored.{Stored}
 use Rattle.about_store.specs.Agrees.{Agrees}
-use Rattle.about_store.proofs.Bools.{and-false}
 use Rattle.about_store.proofs.Laws.{fresh-agrees, store-sound}
 use Rattle.about_store.proofs.View.{View, Shows}
 use Rattle.about_store.proofs.Shown.{Plain, held-same, bytes-same}
@@ -28,13 +27,11 @@ use Rattle.unit.specs.declared.Done.{Done}
 use Rattle.unit.proofs.CallLaws.{lost-done}
 use Rattle.unit.proofs.SoundParts.{sound-parts}
 use Rattle.about_calls.proofs.EveryList.{every-list}
+use Rattle.about_calls.proofs.Follows.{stored}
 use Rattle.about_alike.specs.Alike.{Whole, Alike, LikeLost, StaysWhole, SameAnswers, LostAnswers, OwnAlike, TurnAlike, OnAlike, DaysDecide, FreshAlike}
 use Rattle.about_alike.proofs.Views.{viewIn, shows-own, plain-own, days-same, shows-other}
 use Rattle.about_alike.proofs.Outcomes.{Beside, Good, made, made-sound, made-lent}
 use Rattle.about_alike.proofs.EveryList.{list-outcomes}
-
-abbrev stored : State → Stored
-stored s = record { pool = s .unit .pool; store = s .store }
 
 abbrev besideOf : State → Beside
 besideOf s = record { plant = s .unit .plant; requests = s .unit .requests; clock = s .unit .clock; command = s .unit .command }

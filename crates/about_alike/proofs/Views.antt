@@ -16,13 +16,13 @@ use Rattle.rules.specs.Calendar.{slotsOfMonth, lastMonth}
 use Rattle.rules.specs.Body.{highestRate}
 use Rattle.rules.specs.Store.{storeLength, blockOf, noRate, toByte, fromByte, all, soundBlock, soundStore, blockCount, blockLength, lawfulByte}
 use Rattle.rules.specs.Machine.{orZero}
+use Rattle.laws.proofs.Tests.{both}
 use Rattle.pool.specs.Blocks.{findOf}
 use Rattle.pool.specs.Held.{InBlock, Held, Sound, heldOf}
 use Rattle.pool.specs.declared.Found.{Found}
 use Rattle.pool.specs.declared.Found.the-variants.{At, Nothing}
 use Rattle.pool.proofs.Laws.{find-at, find-in}
 use Rattle.schedule.specs.Stored.{Stored, place, rateFound, isNothing}
-use Rattle.about_store.proofs.Bools.{and-right}
 use Rattle.about_store.proofs.View.{View, Shows}
 use Rattle.about_store.proofs.Shown.{Plain, block-at, block-length}
 use Rattle.unit.proofs.ReleaseLaws.{held-block, block-legal, all-at as all-in}
@@ -58,7 +58,7 @@ module _ (st : Stored) (full : length (st .store) ≡ storeLength) (lent : sound
   past-end m b i k l h =
       let n = slotsOfMonth m in
       let bytes = blockOf (st .store) b in
-      let rest = and-right (all lawfulByte (take n bytes)) (all (λ x. eqb x noRate) (drop n bytes)) (sound-block m b k) in
+      let rest = both (all lawfulByte (take n bytes)) (all (λ x. eqb x noRate) (drop n bytes)) (sound-block m b k) .1 in
       let there : n + (i - n) ≡ i = omega arith in
       sym (block-at (st .store) full b (k .below) i h)
       ∙ ap (λ (j : ℕ). getD bytes j noRate) (sym there)

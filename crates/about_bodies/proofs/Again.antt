@@ -1,37 +1,35 @@
 -- A body read, taken apart and written again is itself.
 -- Assumes nothing.
-use Prim.Native.Nat.{ℕ, zero, suc, _≤_, _<_}
+use Prim.Native.Nat.{ℕ, suc, _≤_, _<_}
 use mathlib.Core.Path.{_≡_, _∙_, refl, sym, ap, subst}
-use mathlib.Core.Bool.{Bool, true, false, _&&_, false≢true}
-use mathlib.Core.List.{List, [], _∷_, _++_}
+use mathlib.Core.Bool.{true, false, false≢true}
+use mathlib.Core.List.{List, [], _∷_}
 use mathlib.Core.Option.{Option, none, some}
 use native.Mathlib.Omega.{arith}
-use lib.Dec.{lit<}
-use lib.ListN.{length, getD, getElem?, take, drop}
+use lib.ListN.{length, getElem?}
 use Rattle.rules.specs.Digits.{sameBytes}
 use Rattle.rules.specs.Name.{formatNumber}
 use Rattle.rules.specs.Body.{Record, Body, schedule, registration, countOf, parseBody, every, isSchedule, formOfBody}
 use Rattle.rules.specs.File.{File, Outcome, refuse, file, readFile, recordsIn, flagOf}
 use Rattle.rules.specs.Lister.{recordCount, rateCount}
-use Rattle.rules.specs.Writer.{Fields, Output, bytes, writtenOf, bufferAfter, writeBody}
-use Rattle.rules.specs.declared.Cause.{Cause}
+use Rattle.rules.specs.Writer.{Fields, bytes, writtenOf, writeBody}
 use Rattle.rules.specs.declared.Format.{Format}
 use Rattle.rules.specs.declared.Format.the-variants.{F201, F202, F203, F301}
 use Rattle.rules.specs.declared.Written.{Written}
 use Rattle.rules.specs.Reading.{summaryOf, readingOf}
 use Rattle.rules.specs.declared.Summary.{Summary}
-use Rattle.rules.specs.declared.Reading.the-variants.{Read, Refused}
+use Rattle.rules.specs.declared.Reading.the-variants.{Read}
+use Rattle.laws.proofs.Tests.{join}
+use Rattle.laws.proofs.Bytes.{equal-same}
 use Rattle.about_files.specs.Writing.{endToEnd, sharedSchedule, fieldsOf as fieldsIn}
-use Rattle.about_files.proofs.Booleans.{join, equal-same}
 use Rattle.about_files.proofs.Body.{schedule-facts}
 use Rattle.about_files.proofs.Rewritten.{read-written, read-written-with-plant}
 use Rattle.plan.specs.Fields.{fieldsOf}
-use Rattle.records.specs.Reading.{fieldIn, recordsOf, recordIn, ratesOutput}
-use Rattle.records.specs.declared.Field.{Field}
+use Rattle.records.specs.Reading.{fieldIn, recordIn, ratesOutput}
 use Rattle.records.specs.declared.Field.the-variants.{Schedule, Plant, Start, Next}
 use Rattle.records.proofs.Joined.{joined-length}
 use Rattle.about_bodies.specs.Written.{Holds}
-use Rattle.about_bodies.specs.Again.{anId, first, copied, fieldsAgain, Shared, BodyAgain}
+use Rattle.about_bodies.specs.Again.{anId, copied, fieldsAgain, Shared, BodyAgain}
 use Rattle.about_bodies.proofs.Records.{parsed}
 use Rattle.about_bodies.proofs.Written.{holds-bytes, first-bytes, rates-output}
 
@@ -71,14 +69,16 @@ shares (r ∷ rs) h = all-same (r .schedule) rs (λ i l. h (suc i) (omega arith)
 -- ---- the fields that are handed over are those of the records
 
 same-fields : (f : Format) (rs : List Record)
-    → fieldsOf (formatNumber f) (fieldIn Plant (getElem? rs 0)) (fieldIn Schedule (getElem? rs 0)) (fieldIn Start (getElem? rs 0)) (fieldIn Next (getElem? rs 0)) (endToEnd rs) (flagOf rs)
+    → let first = getElem? rs 0 in
+    fieldsOf (formatNumber f) (fieldIn Plant first) (fieldIn Schedule first) (fieldIn Start first) (fieldIn Next first) (endToEnd rs) (flagOf rs)
     ≡ fieldsIn f rs
 same-fields f [] = refl
 same-fields f (r ∷ rs) = refl
 
 -- ---- the body
 
-module _ (plant : Option (List ℕ)) (name body space out : List ℕ) (f : File) (e : readFile plant name body ≡ file f) (i : isSchedule (f .name .format) ≡ true) where
+module _ (plant : Option (List ℕ)) (name body space out : List ℕ) (f : File) (e : readFile plant name body ≡ file f)
+    (i : isSchedule (f .name .format) ≡ true) where
   abbrev fmt : Format
   fmt = f .name .format
 

@@ -2,8 +2,8 @@
 -- Assumes nothing.
 use Prim.Native.Nat.{ℕ, zero, suc, _≤_, _<_}
 use mathlib.Core.Path.{_≡_, _∙_, refl, sym, ap, subst}
-use mathlib.Core.Bool.{Bool, true, _&&_}
-use mathlib.Core.List.{List, [], _∷_, _++_}
+use mathlib.Core.Bool.{true}
+use mathlib.Core.List.{List, [], _∷_}
 use mathlib.Core.Option.{Option, none, some}
 use native.Mathlib.Omega.{arith}
 use lib.ListN.{length, getElem?, take, drop}
@@ -11,25 +11,24 @@ use lib.Seq.{take-at, drop-at}
 use borrow.Author.Tests.{le-leb}
 use Rattle.rules.specs.Digits.{sameBytes}
 use Rattle.rules.specs.Name.{Name, formatOf, encodeName}
-use Rattle.rules.specs.Body.{Record, schedule, countOf, parseBody, every, isSchedule}
-use Rattle.rules.specs.File.{File, file, readFile}
-use Rattle.rules.specs.Writer.{Fields, Output, refuse, bytes, fitting, writtenOf, bufferAfter, updateRecord, fieldRecords, writeBody}
-use Rattle.rules.specs.declared.Cause.{Cause}
+use Rattle.rules.specs.Body.{Record, schedule, parseBody, every, isSchedule}
+use Rattle.rules.specs.File.{file, readFile}
+use Rattle.rules.specs.Writer.{Fields, Output, refuse, bytes, writtenOf, bufferAfter, updateRecord, fieldRecords, writeBody}
 use Rattle.rules.specs.declared.Format.{Format}
 use Rattle.rules.specs.declared.Format.the-variants.{F203}
 use Rattle.rules.specs.declared.Written.{Written}
 use Rattle.rules.specs.Reading.{summaryOf, readingOf}
-use Rattle.rules.specs.declared.Reading.{Reading}
 use Rattle.rules.specs.declared.Reading.the-variants.{Read}
-use Rattle.about_files.specs.Writing.{endToEnd, firstStart, firstNext, NameFor, Carries, fileFor, ReadsBack}
-use Rattle.about_files.proofs.Booleans.{both, same-equal}
+use Rattle.laws.proofs.Tests.{both}
+use Rattle.laws.proofs.Bytes.{same-equal}
+use Rattle.about_files.specs.Writing.{endToEnd, firstStart, firstNext, NameFor, fileFor, ReadsBack}
 use Rattle.about_files.proofs.Written.{Fit, Good, written-facts, fields-good, written-reads}
 use Rattle.plan.specs.Fields.{fieldsOf}
-use Rattle.records.specs.Reading.{fieldOf, fieldIn, recordsOf, recordIn, ratesOutput}
+use Rattle.records.specs.Reading.{fieldOf, fieldIn, recordIn, ratesOutput}
 use Rattle.records.specs.declared.Field.{Field}
-use Rattle.records.specs.declared.Field.the-variants.{Schedule, Plant, Start, Rates, Flag, Checksum, Next}
+use Rattle.records.specs.declared.Field.the-variants.{Schedule, Plant, Start, Flag, Next}
 use Rattle.about_bodies.specs.Written.{Holds, FieldsRead, WrittenFields}
-use Rattle.about_bodies.proofs.Records.{parsed, same-records}
+use Rattle.about_bodies.proofs.Records.{parsed}
 
 -- ---- outputs
 
@@ -82,7 +81,8 @@ unfolding fieldRecords updateRecord
 first-flag f w e = rw e refl
 
 -- ---- what is read of a body that was written
-module _ (w : Fields) (room : ℕ) (b : List ℕ) (f : Format) (n : Name) (e : writeBody w room ≡ bytes b) (q : formatOf (w .format) ≡ some f) (h : NameFor f w n) where
+module _ (w : Fields) (room : ℕ) (b : List ℕ) (f : Format) (n : Name) (e : writeBody w room ≡ bytes b)
+    (q : formatOf (w .format) ≡ some f) (h : NameFor f w n) where
   abbrev rs : List Record
   rs = fieldRecords f w
 

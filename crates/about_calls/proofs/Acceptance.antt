@@ -1,8 +1,7 @@
 -- Every lawful file that fits is accepted.
-use Prim.Native.Nat.{ℕ, zero, suc, _+_, _≤_}
+use Prim.Native.Nat.{ℕ, _+_, _≤_}
 use mathlib.Core.Path.{_≡_, refl, sym, ap, _∙_}
-use mathlib.Core.Bool.{Bool, true, false, cond, not, _&&_, _||_}
-use mathlib.Core.List.{List, _∷_, map}
+use mathlib.Core.Bool.{true, false, not, _&&_, _||_}
 use native.Mathlib.Omega.{arith}
 use lib.Dec.{leb, ltb}
 use lib.ListN.{length}
@@ -10,13 +9,14 @@ use borrow.Author.Tests.{eq-eqb, le-ltb}
 use Rattle.rules.specs.Calendar.{monthCount}
 use Rattle.rules.specs.Name.{encodeName}
 use Rattle.rules.specs.Body.{encodeBody}
-use Rattle.rules.specs.File.{File, file, takeFile, lawful, recordsIn}
-use Rattle.rules.specs.Store.{Held as HeldMonth, storeLength, member, blockCount}
-use Rattle.rules.specs.Machine.{anyRecord, countBelow, one}
+use Rattle.rules.specs.File.{File, file, takeFile, recordsIn}
+use Rattle.rules.specs.Store.{storeLength, member, blockCount}
+use Rattle.rules.specs.Machine.{anyRecord, countBelow}
 use Rattle.rules.specs.Table.{firstOf}
+use Rattle.laws.proofs.Tests.{both, isnt}
 use Rattle.about_files.proofs.Reading.{taken-exactly}
-use Rattle.pool.specs.Blocks.{isFree, monthOf, findOf, freeCount}
-use Rattle.pool.specs.Held.{Held, Sound, monthsBelow, heldMonths, heldBelow, soundPool}
+use Rattle.pool.specs.Blocks.{findOf, freeCount}
+use Rattle.pool.specs.Held.{Held, Sound, heldMonths, soundPool}
 use Rattle.pool.specs.declared.Pool.{Pool}
 use Rattle.pool.specs.declared.Found.{Found}
 use Rattle.pool.specs.declared.Found.the-variants.{At, Nothing}
@@ -25,39 +25,17 @@ use Rattle.pool.proofs.SoundLaws.{pool-facts}
 use Rattle.schedule.specs.Stored.{meets, missing, isNothing}
 use Rattle.about_store.specs.Run.{GoodFile, runStart, runLength}
 use Rattle.about_store.proofs.Rooms.{any-run}
-use Rattle.about_store.proofs.Bools.{isnt}
-use Rattle.about_store.proofs.Counts.{count-add, count-list, count-same, member-mem, mem-member}
+use Rattle.about_store.proofs.Counts.{count-add, count-list, count-same, member-mem, mem-member, one-more}
 use Rattle.about_store.proofs.Laws.{taken-good}
+use Rattle.about_store.proofs.Given.{held-months, months-few}
 use Rattle.unit.specs.Values.{isSound}
 use Rattle.taking.specs.Taken.{takeOf, fullRow}
 use Rattle.unit.specs.declared.Unit.{Unit}
 use Rattle.unit.specs.declared.Clock.the-variants.{At}
 use Rattle.unit.proofs.CallLaws.{sound-is}
 use Rattle.about_calls.specs.Acceptance.{holdsMonth, together, AcceptsLawful}
-use Rattle.about_calls.proofs.Asks.{both}
 
 -- ---- the pool of a sound unit
-
--- the held months as the pool lists them
-same-months : (k : ℕ) (p : Pool) → map (λ (h : HeldMonth). h .month) (heldBelow k p) ≡ monthsBelow k p
-unfolding heldBelow monthsBelow
-same-months zero p = refl
-same-months (suc k) p = go (isFree p k) (same-months k p)
-  where
-    go : (x : Bool) → map (λ (h : HeldMonth). h .month) (heldBelow k p) ≡ monthsBelow k p
-        → map (λ (h : HeldMonth). h .month) (cond x (heldBelow k p) (record { month = monthOf p k; block = k } ∷ heldBelow k p))
-        ≡ cond x (monthsBelow k p) (monthOf p k ∷ monthsBelow k p)
-    go true e = e
-    go false e = ap (λ (l : List ℕ). monthOf p k ∷ l) e
-
-pub few-months : (k : ℕ) (p : Pool) → length (monthsBelow k p) ≤ k
-unfolding monthsBelow
-few-months zero p = omega arith
-few-months (suc k) p = go (isFree p k) (few-months k p)
-  where
-    go : (x : Bool) → length (monthsBelow k p) ≤ k → length (cond x (monthsBelow k p) (monthOf p k ∷ monthsBelow k p)) ≤ suc k
-    go true l = omega arith
-    go false l = omega arith
 
 pub sound-pool : (u : Unit) → isSound u ≡ true → Sound (u .pool) (u .floor)
 sound-pool u e =
@@ -79,7 +57,7 @@ module _ (u : Unit) (good : isSound u ≡ true) where
 
   -- a month has a block exactly where it is held
   nothing-held : (m : ℕ) → isNothing (findOf (u .pool) m) ≡ not (holdsMonth u m)
-  nothing-held m = rw (same-months blockCount (u .pool)) (go (findOf (u .pool) m) refl)
+  nothing-held m = rw (held-months blockCount (u .pool)) (go (findOf (u .pool) m) refl)
     where
       go : (o : Found) → findOf (u .pool) m ≡ o → isNothing o ≡ not (member m (heldMonths (u .pool)))
       go (At b) e = rw (mem-member m (heldMonths (u .pool)) (months-held (u .pool) m .1 (b, find-at (u .pool) m b e)))
@@ -93,7 +71,7 @@ module _ (u : Unit) (good : isSound u ≡ true) where
 
   pub held-count : countBelow monthCount (holdsMonth u) ≡ length (heldMonths (u .pool))
   held-count =
-      count-same monthCount (holdsMonth u) (λ m. member m (heldMonths (u .pool))) (λ m l. ap (member m) (same-months blockCount (u .pool)))
+      count-same monthCount (holdsMonth u) (λ m. member m (heldMonths (u .pool))) (λ m l. ap (member m) (held-months blockCount (u .pool)))
       ∙ count-list monthCount (heldMonths (u .pool)) (months-once (u .pool) (u .floor) blockCount (omega arith) facts)
       (λ m d. let h = months-held (u .pool) m .0 d in omega (arith, facts .high m (h .0) (h .1)))
 
@@ -105,22 +83,14 @@ module _ (u : Unit) (good : isSound u ≡ true) where
       let rs = recordsIn (f .body) in
       count-add monthCount (holdsMonth u) (λ m. leb (u .floor) m && meets m (runStart rs) (runLength rs) && isNothing (findOf (u .pool) m))
       (λ m. leb (u .floor) m && anyRecord m rs || holdsMonth u m)
-      (λ m. rw (any-run m (runStart rs) rs g, nothing-held m) (table (leb (u .floor) m) (meets m (runStart rs) (runLength rs)) (holdsMonth u m)))
-    where
-      table : (x y h : Bool) → one (x && y || h) ≡ one h + one (x && y && not h)
-      table true true true = refl
-      table true true false = refl
-      table true false true = refl
-      table true false false = refl
-      table false y true = refl
-      table false y false = refl
+      (λ m. rw (any-run m (runStart rs) rs g, nothing-held m) (one-more (leb (u .floor) m) (meets m (runStart rs) (runLength rs)) (holdsMonth u m)))
 
   fits : (f : File) → GoodFile f → together u f ≤ blockCount → fullRow f u .applies ≡ false
   unfolding fullRow
   fits f g few =
       let rs = recordsIn (f .body) in
       le-ltb (freeCount (u .pool)) (missing (u .pool) (u .floor) (runStart rs) (runLength rs))
-      (omega (arith, together-is f g, held-count, free-is (u .pool), few-months blockCount (u .pool)))
+      (omega (arith, together-is f g, held-count, free-is (u .pool), months-few blockCount (u .pool)))
 
 pub accepts-lawful : AcceptsLawful
 unfolding takeOf firstOf

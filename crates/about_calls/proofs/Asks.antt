@@ -1,7 +1,7 @@
 -- What the machine asks for stays sound: after a failure, a yearly file and an update.
 use Prim.Native.Nat.{ℕ, _+_, _-_, _≤_, _<_}
 use mathlib.Core.Path.{_≡_, refl}
-use mathlib.Core.Bool.{Bool, true, false, cond, not, _&&_, false≢true}
+use mathlib.Core.Bool.{Bool, true, false, cond, not, _&&_}
 use native.Mathlib.Omega.{arith}
 use lib.Dec.{leb, ltb, eqb}
 use borrow.Author.Tests.{lt-ltb, le-leb, leb-true, ltb-true, ltb-false}
@@ -10,11 +10,8 @@ use Rattle.rules.specs.Plant.{Settings}
 use Rattle.rules.specs.Store.{Requests, retries, soundRequests, longestWait}
 use Rattle.rules.specs.Machine.{updateTime, takeUpdate, takeYear, failedUpdate, failedFixed, failed, isClientError, fixedWait, updateWait, refusedWait, windowStart, nextWindow}
 use Rattle.rules.specs.declared.Kind.{Kind}
+use Rattle.laws.proofs.Tests.{both}
 use Rattle.plant.proofs.Laws.{InRange}
-
-pub both : (a b : Bool) → (a && b) ≡ true → (a ≡ true) × (b ≡ true)
-both true b e = (refl, e)
-both false b e = absurd (false≢true e)
 
 -- 'flags 0 to 10, failures 0 to 5, f and u below T + 172,800', as facts
 pub record Asks (s : Settings) (q : Requests) : Type 0 where

@@ -1,7 +1,7 @@
 -- The relation that every call keeps: the unit's values are the machine's, and pool and store agree with its files.
 use Prim.Native.Nat.{ℕ, _*_, _≤_, _<_}
 use mathlib.Core.Path.{_≡_, refl, sym, _∙_}
-use mathlib.Core.Bool.{Bool, true, false, _&&_}
+use mathlib.Core.Bool.{true, false, and-false}
 use mathlib.Core.List.{[], map}
 use mathlib.Core.Option.{none}
 use native.Mathlib.Omega.{arith}
@@ -85,11 +85,7 @@ module _ (p : Plant) (valid : validPlant p ≡ true) (n : ℕ) (s : State) (M : 
 
   files-none : (m : ℕ) → M .files ≡ [] → isHeld M m ≡ false
   unfolding isHeld anyFile
-  files-none m e = rw e (go (leb (M .floor) m))
-    where
-      go : (t : Bool) → (t && false) ≡ false
-      go true = refl
-      go false = refl
+  files-none m e = rw e (and-false (leb (M .floor) m))
 
   fresh-none : (m : ℕ) → member m (map (λ h. h .month) (heldOf freshPool)) ≡ false
   unfolding heldBelow member

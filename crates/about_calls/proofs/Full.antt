@@ -23,6 +23,7 @@ use Rattle.pool.proofs.Laws.{free-is}
 use Rattle.schedule.specs.Stored.{missing}
 use Rattle.about_store.specs.Run.{GoodFile, runStart, runLength}
 use Rattle.about_store.proofs.Laws.{taken-good}
+use Rattle.about_store.proofs.Given.{months-few}
 use Rattle.unit.specs.Values.{isSound}
 use Rattle.unit.specs.Rows.{isUnset}
 use Rattle.unit.specs.Calls.{doneBy}
@@ -31,7 +32,7 @@ use Rattle.unit.specs.declared.Unit.{Unit}
 use Rattle.unit.specs.declared.Clock.{Clock}
 use Rattle.about_calls.specs.Acceptance.{together}
 use Rattle.about_calls.specs.Full.{FullExactly}
-use Rattle.about_calls.proofs.Acceptance.{few-months, held-count, together-is}
+use Rattle.about_calls.proofs.Acceptance.{held-count, together-is}
 
 -- ---- 14 applies exactly where the months together are more than the blocks
 
@@ -45,10 +46,10 @@ full-is u good f g = go (ltb blockCount (together u f)) refl
     go : (t : Bool) → ltb blockCount (together u f) ≡ t → ltb (freeCount (u .pool)) need ≡ t
     go true e =
         lt-ltb (freeCount (u .pool)) need
-        (omega (arith, ltb-true blockCount (together u f) e, together-is u good f g, held-count u good, free-is (u .pool), few-months blockCount (u .pool)))
+        (omega (arith, ltb-true blockCount (together u f) e, together-is u good f g, held-count u good, free-is (u .pool), months-few blockCount (u .pool)))
     go false e =
         le-ltb (freeCount (u .pool)) need
-        (omega (arith, ltb-false blockCount (together u f) e, together-is u good f g, held-count u good, free-is (u .pool), few-months blockCount (u .pool)))
+        (omega (arith, ltb-false blockCount (together u f) e, together-is u good f g, held-count u good, free-is (u .pool), months-few blockCount (u .pool)))
 
 -- ---- what a call answers, by the first row that applies
 

@@ -26,11 +26,11 @@ use Rattle.pool.specs.declared.Found.{Found}
 use Rattle.pool.specs.declared.Found.the-variants.{At, Nothing}
 use Rattle.pool.specs.declared.Place.the-variants.{In}
 use Rattle.pool.proofs.BelowLaws.{bit-number}
-use Rattle.pool.proofs.Laws.{take-full, take-in}
+use Rattle.pool.proofs.Laws.{take-full, take-in, released-in}
 use Rattle.schedule.specs.Stored.{Stored, Piece, opened, openBy, openMonth, layBy, layPiece, putPiece, pieceIn, canPut, putRun}
 use Rattle.about_store.specs.Run.{putRecords}
 use Rattle.about_store.specs.Untouched.{Keeps}
-use Rattle.about_store.proofs.Given.{given-cases, given-keeps, released-in}
+use Rattle.about_store.proofs.Given.{given-cases, given-keeps}
 use Rattle.about_store.proofs.Put.{live}
 use Rattle.unit.specs.Calls.{doneBy, setClock, withCommand, second, seconds, tickFrom, ticked, tickOf, lost, lostOf, withFailure, failureOf}
 use Rattle.taking.specs.Taken.{takeRows, takeOf, taken, withFile}

@@ -20,6 +20,7 @@ use Rattle.rules.specs.declared.Format.the-variants.{F201, F202, F203, F301}
 use Rattle.calendar.proofs.DateLaws.{exists-below}
 use Rattle.about_files.proofs.Reading.{taken-exactly}
 use Rattle.rules.specs.Plant.{Settings}
+use Rattle.laws.proofs.Tests.{both}
 use Rattle.plant.specs.Plant.{validPlant}
 use Rattle.plant.specs.declared.Plant.{Plant}
 use Rattle.pool.specs.Blocks.{freeCount}
@@ -38,7 +39,7 @@ use Rattle.about_calls.proofs.Options.{test-same, test-other}
 use Rattle.about_calls.proofs.MachineLaws as machine
 use Rattle.about_calls.proofs.UnitLaws as unit
 use Rattle.about_calls.proofs.Follows.{stored, agrees, Follows}
-use Rattle.about_calls.proofs.Asks.{both, Asks, asks-facts, facts-asks, year-asks, taken-asks}
+use Rattle.about_calls.proofs.Asks.{Asks, asks-facts, facts-asks, year-asks, taken-asks}
 use Rattle.about_calls.proofs.Steps.{Sim, sim-by, w, good, clock-none, clock-some, time-below, short, full, agreed, bytes}
 
 -- ---- what a lawful file says

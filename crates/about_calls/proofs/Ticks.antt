@@ -1,5 +1,5 @@
 -- One tick over n seconds and n ticks of one second; and the tick over none.
-use Prim.Native.Nat.{ℕ, zero, suc, _-_, _≤_, _<_, _^_}
+use Prim.Native.Nat.{ℕ, _-_, _≤_, _<_, _^_}
 use mathlib.Core.Path.{_≡_, refl, sym, ap, _∙_}
 use mathlib.Core.Bool.{Bool, true, false, _||_}
 use mathlib.Core.List.{List}
@@ -13,11 +13,11 @@ use Rattle.rules.specs.Store.{storeLength, soundClock, soundStore, blockCount}
 use Rattle.rules.specs.Machine.{Machine, raisedFloor, freshMachine, after as machineAfter}
 use Rattle.rules.specs.Table.{firstOf}
 use Rattle.rules.specs.declared.Answer.{Answer}
-use Rattle.pool.specs.Below.{sumBelow, number, bit}
+use Rattle.pool.specs.Below.{bit}
 use Rattle.pool.specs.Blocks.{isFree, monthOf as blockMonth, freeAfter, releaseOf}
 use Rattle.pool.specs.Held.{heldOf, Sound}
 use Rattle.pool.specs.declared.Pool.{Pool}
-use Rattle.pool.proofs.BelowLaws.{number-bits}
+use Rattle.pool.proofs.BelowLaws.{number-bits, sum-same}
 use Rattle.about_store.proofs.Laws.{store-sound}
 use Rattle.unit.specs.Values.{isSound, clockOf}
 use Rattle.unit.specs.Calls.{setClock, tickFrom, ticked, tickOf}
@@ -40,16 +40,10 @@ same-after-ticks u store c n set least answer =
 
 -- ---- n = 0
 
--- a sound pool has nothing to release below its floor
-number-same : (k : ℕ) (s t : ℕ → Bool) → ((b : ℕ) → b < k → s b ≡ t b) → number k s ≡ number k t
-unfolding sumBelow
-number-same zero s t h = refl
-number-same (suc k) s t h = rw (h k (omega arith), number-same k s t (λ b l. h b (omega arith)))
-
 release-none : (p : Pool) (floor : ℕ) → p .free < 2 ^ blockCount → Sound p floor → releaseOf p floor ≡ p
 unfolding releaseOf
 release-none p floor few s =
-    λ i. record { months = p .months; free = (number-same blockCount (freeAfter p floor) (bit (p .free)) each ∙ number-bits blockCount (p .free) few) i }
+    λ i. record { months = p .months; free = (sum-same (λ b. 2 ^ b) blockCount (freeAfter p floor) (bit (p .free)) each ∙ number-bits blockCount (p .free) few) i }
   where
     each : (b : ℕ) → b < blockCount → freeAfter p floor b ≡ bit (p .free) b
     each b l = go (isFree p b) refl

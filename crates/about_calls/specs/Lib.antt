@@ -3,6 +3,7 @@ pub mod Ticks
 pub mod Acceptance
 pub mod Full
 pub mod Refusals
+pub mod OwnRequest
 pub mod Installed
 pub mod Sentences
 pub mod Apart

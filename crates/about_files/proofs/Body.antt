@@ -14,15 +14,13 @@ use Rattle.rules.specs.Digits.{part, allDigits, digits, value, decimal}
 use Rattle.rules.specs.Body.{Record, Body, schedule, registration, countOf, recordShape, recordAt, sizeOf, before, parseRecords, parseRegistration, parseRest, counted, parseBody, encodeRecord, encodeRecords, encodeBody, formOfRecord, every, isSchedule, formOfBody}
 use Rattle.rules.specs.declared.Format.{Format}
 use Rattle.rules.specs.declared.Format.the-variants.{F201, F202, F203, F301}
+use Rattle.laws.proofs.Tests.{both, join, no-some}
+use Rattle.laws.proofs.Bytes.{length-decimal, part-length}
+use Rattle.laws.proofs.Facts.{digits-of}
 use Rattle.about_files.specs.Reading.{RecordsExactly, BodyExactly}
-use Rattle.about_files.proofs.Booleans.{both, join}
-use Rattle.about_files.proofs.Numerals.{length-decimal, digits-decimal, value-decimal, decimal-value, digits-facts, facts-digits}
-use Rattle.about_files.proofs.Pieces.{chop, part-long, here}
+use Rattle.about_files.proofs.Numerals.{digits-decimal, value-decimal, decimal-value, facts-digits}
+use Rattle.about_files.proofs.Pieces.{chop, here}
 use Rattle.about_files.proofs.Record.{form-facts, facts-form, read-form, read-bytes, bytes-record, bytes-rest, bytes-shape}
-
--- nothing is not something
-pub no-some : {A X : Type 0} {a : A} → _≡_ {A = Option A} none (some a) → X
-no-some e = let z : _≡_ {A = ℕ} 0 1 = cc in absurd (omega arith)
 
 -- ---- the records
 abbrev Made : Format → ℕ → List ℕ → List Record → Type 0
@@ -141,7 +139,7 @@ registration-made s (registration plant result) e = go (registered s) refl
         let a = both (eqb (length s) 27 && allDigits (part s 0 26)) (leb (getD s 26 0) 1) h in
         let b = both (eqb (length s) 27) (allDigits (part s 0 26)) (a .0) in
         let l = eqb-true (length s) 27 (b .0) in
-        let d : digits 26 plant ≡ true = rw p≡ at (facts-digits 26 (part s 0 26) (part-long s 0 26 (omega arith)) (b .1)) in
+        let d : digits 26 plant ≡ true = rw p≡ at (facts-digits 26 (part s 0 26) (part-length s 0 26 (omega arith)) (b .1)) in
         (last-byte s l ∙ ap₂ (λ (x : List ℕ) (y : ℕ). x ++ (y ∷ [])) p≡ r≡, join d (rw r≡ at (a .1)))
     go false h = no-some (rw h at e)
 
@@ -150,13 +148,13 @@ unfolding parseRegistration formOfBody
 made-registration s (schedule rs) e h = absurd (false≢true h)
 made-registration s (registration plant result) e h =
     let p = both (digits 26 plant) (leb result 1) h in
-    let d = digits-facts 26 plant (p .0) in
+    let d = digits-of 26 plant (p .0) in
     let l = length-append plant (result ∷ []) in
-    let d₀ : length plant ≡ 26 = d .0 in
+    let d₀ : length plant ≡ 26 = d .long in
     let n : length (plant ++ (result ∷ [])) ≡ 27 = omega arith in
     let t : part (plant ++ (result ∷ [])) 0 26 ≡ plant = here plant (result ∷ []) d₀ in
     let g : getD (plant ++ (result ∷ [])) 26 0 ≡ result = getD-at plant result [] 0 26 d₀ in
-    rw e (rw (t, g) (rw (eq-eqb (length (plant ++ (result ∷ []))) 27 n, d .1, p .1) refl))
+    rw e (rw (t, g) (rw (eq-eqb (length (plant ++ (result ∷ []))) 27 n, d .each, p .1) refl))
 
 -- ---- a schedule's records
 schedule-made : (f : Format) (s : List ℕ) (b : Body) → isSchedule f ≡ true → Option·map schedule (parseRecords f (countOf f) s) ≡ some b
@@ -211,7 +209,7 @@ body-exactly f s b = (to (counted f s) refl, from)
         let p = both (leb 6 (length s) && allDigits (part s 0 6)) (eqb (value (part s 0 6)) (countOf f)) h in
         let q = both (leb 6 (length s)) (allDigits (part s 0 6)) (p .0) in
         let v : value (part s 0 6) ≡ countOf f = eqb-true _ _ (p .1) in
-        let d = decimal-value (part s 0 6) 6 (part-long s 0 6 (leb-true _ _ (q .0))) (q .1) in
+        let d = decimal-value (part s 0 6) 6 (part-length s 0 6 (leb-true _ _ (q .0))) (q .1) in
         let c : part s 0 6 ≡ decimal 6 (countIn b) = sym d ∙ ap (decimal 6) (v ∙ sym (count-is f b (m .1))) in
         (chop s 0 6 (m .0) ∙ ap (λ (x : List ℕ). x ++ restBytes b) c ∙ sym (bytes-are b), m .1)
 

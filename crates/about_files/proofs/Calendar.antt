@@ -1,26 +1,21 @@
 -- Dates in digits: the start of a month, what its digits say, and that no other digits say it; the slots of consecutive months.
 -- Assumes nothing.
 use Prim.Native.Nat.{ℕ, zero, suc, _+_, _-_, _/_, _%_, _≤_, _<_}
-use mathlib.Core.Path.{_≡_, _∙_, refl, ap}
+use mathlib.Core.Path.{_≡_, refl, ap}
 use mathlib.Core.Bool.{Bool, true, false, _&&_}
-use mathlib.Core.List.{List, [], _∷_, _++_}
+use mathlib.Core.List.{List, [], _∷_}
 use native.Mathlib.Omega.{arith}
 use lib.Dec.{leb, eqb, lit≤}
-use lib.ListN.{length, getD, take, drop, length-drop}
-use lib.Seq.{take-append-le, drop-append-le}
-use borrow.Author.Tests.{le-leb, leb-true, lt-ltb, ltb-true}
+use lib.ListN.{length, getD}
+use borrow.Author.Tests.{le-leb, leb-true, lt-ltb}
 use Rattle.rules.specs.Digits.{part, allAtMost, valueFrom, value}
-use Rattle.rules.specs.Calendar.{daysOfMonth, firstDay, firstSlot, slotsOfMonth, monthLengths, leapDay, yearIn, monthIn, dayIn, hourIn, minuteIn, secondIn, monthAt, exists, wholeMinute}
-use Rattle.about_files.proofs.Booleans.{both, join}
+use Rattle.rules.specs.Calendar.{daysOfMonth, firstDay, firstSlot, slotsOfMonth, monthLengths, leapDay, yearIn, monthIn, dayIn, hourIn, minuteIn, secondIn, exists, wholeMinute}
+use Rattle.laws.proofs.Tests.{both, join}
+use Rattle.laws.proofs.Bytes.{at-most-at, part-front}
+use Rattle.laws.proofs.Facts.{Date}
 use Rattle.about_files.proofs.Pieces.{skip}
 
 -- ---- the days of a month
-pub getD-most : (most : ℕ) (s : List ℕ) (i : ℕ) → allAtMost most s ≡ true → getD s i 0 ≤ most
-unfolding allAtMost
-getD-most most [] i e = omega arith
-getD-most most (x ∷ s) zero e = leb-true x most (both (leb x most) (allAtMost most s) e .0)
-getD-most most (x ∷ s) (suc i) e = getD-most most s i (both (leb x most) (allAtMost most s) e .1)
-
 abbrev allAtLeast : ℕ → List ℕ → Bool
 allAtLeast least [] = true
 allAtLeast least (x ∷ xs) = leb least x && allAtLeast least xs
@@ -38,7 +33,7 @@ module _ (m : ℕ) where
   pub days-most : daysOfMonth m ≤ 32
   unfolding daysOfMonth allAtMost
   days-most =
-      let a = getD-most 31 monthLengths (m % 12) refl in
+      let a = at-most-at 31 monthLengths (m % 12) refl in
       let b = leap-most (eqb (m % 12) 1 && eqb ((2000 + m / 12) % 4) 0) in
       omega arith
 
@@ -65,9 +60,7 @@ slots-between k m = let e = first-slots k m in omega arith
 -- ---- a start with its seconds
 module _ (s : List ℕ) (l : length s ≡ 12) where
   front : (i k : ℕ) → i + k ≤ 12 → part (wholeMinute s) i k ≡ part s i k
-  front i k h =
-      let a : drop i (wholeMinute s) ≡ drop i s ++ (0 ∷ 0 ∷ []) = drop-append-le i s (0 ∷ 0 ∷ []) (omega arith) in
-      ap (take k) a ∙ take-append-le k (drop i s) (0 ∷ 0 ∷ []) (simp length-drop (omega arith))
+  front i k h = part-front s (0 ∷ 0 ∷ []) i k (omega arith)
 
   pub year-whole : yearIn (wholeMinute s) ≡ yearIn s
   year-whole = ap value (front 0 4 (lit≤ tt))
@@ -88,42 +81,8 @@ module _ (s : List ℕ) (l : length s ≡ 12) where
   unfolding valueFrom
   second-whole = ap value (skip s (0 ∷ 0 ∷ []) l 0 2)
 
--- ---- what `exists` says, fact by fact
-pub record Date (s : List ℕ) : Type 0 where
-  pub from2000 : 2000 ≤ yearIn s
-  pub to2099 : yearIn s ≤ 2099
-  pub month1 : 1 ≤ monthIn s
-  pub month12 : monthIn s ≤ 12
-  pub day1 : 1 ≤ dayIn s
-  pub dayLast : dayIn s ≤ daysOfMonth (monthAt s)
-  pub hour : hourIn s < 24
-  pub minute : minuteIn s < 60
-  pub second : secondIn s < 60
-
+-- ---- the facts of a date make one
 module _ (s : List ℕ) where
-  pub date-facts : exists s ≡ true → Date s
-  unfolding exists
-  date-facts e =
-      let e₈ = both _ _ e in
-      let e₇ = both _ _ (e₈ .0) in
-      let e₆ = both _ _ (e₇ .0) in
-      let e₅ = both _ _ (e₆ .0) in
-      let e₄ = both _ _ (e₅ .0) in
-      let e₃ = both _ _ (e₄ .0) in
-      let e₂ = both _ _ (e₃ .0) in
-      let e₁ = both _ _ (e₂ .0) in
-      record {
-        from2000 = leb-true _ _ (e₁ .0);
-        to2099 = leb-true _ _ (e₁ .1);
-        month1 = leb-true _ _ (e₂ .1);
-        month12 = leb-true _ _ (e₃ .1);
-        day1 = leb-true _ _ (e₄ .1);
-        dayLast = leb-true _ _ (e₅ .1);
-        hour = ltb-true _ _ (e₆ .1);
-        minute = ltb-true _ _ (e₇ .1);
-        second = ltb-true _ _ (e₈ .1);
-      }
-
   pub facts-date : Date s → exists s ≡ true
   unfolding exists
   facts-date d =

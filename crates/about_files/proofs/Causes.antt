@@ -13,7 +13,7 @@ use denote.Enum.Declared.{Choice}
 use Rattle.rules.proofs.Cause.{parts, as-values, make, eta}
 use Rattle.rules.specs.Causes.{numberOf}
 use Rattle.rules.specs.declared.Cause.{Cause}
-use Rattle.about_files.proofs.Booleans.{both}
+use Rattle.laws.proofs.Tests.{both}
 
 -- the variants hold nothing, and their numbers rise from k on, to less than m
 abbrev rises : (ps : List (List Field)) → (Choice ps → ℕ) → ℕ → ℕ → Bool

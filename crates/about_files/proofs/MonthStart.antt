@@ -12,10 +12,12 @@ use Rattle.rules.specs.Digits.{part, allAtMost, allDigits, digits, valueFrom, v
 use Rattle.rules.specs.Calendar.{yearIn, monthIn, dayIn, hourIn, minuteIn, monthAt, exists, wholeMinute, monthCount}
 use Rattle.rules.specs.File.{monthBegins}
 use Rattle.rules.specs.Writer.{monthStart}
-use Rattle.about_files.proofs.Booleans.{join, same-equal, equal-same}
-use Rattle.about_files.proofs.Numerals.{all-append, length-decimal, digits-decimal, value-decimal, decimal-value, digits-facts, facts-digits}
-use Rattle.about_files.proofs.Pieces.{piece, part-long, digits-apart, here, skip}
-use Rattle.about_files.proofs.Calendar.{days-least, days-most, year-whole, month-whole, day-whole, hour-whole, minute-whole, second-whole, date-facts, facts-date}
+use Rattle.laws.proofs.Tests.{join}
+use Rattle.laws.proofs.Bytes.{same-equal, equal-same, length-decimal, part-length}
+use Rattle.laws.proofs.Facts.{date-facts, digits-of}
+use Rattle.about_files.proofs.Numerals.{all-append, digits-decimal, value-decimal, decimal-value, facts-digits}
+use Rattle.about_files.proofs.Pieces.{piece, digits-apart, here, skip}
+use Rattle.about_files.proofs.Calendar.{days-least, days-most, year-whole, month-whole, day-whole, hour-whole, minute-whole, second-whole, facts-date}
 
 -- day 01, 00:00
 abbrev firstMoment : List ℕ
@@ -104,7 +106,7 @@ module _ (m : ℕ) where
 -- ---- 12 digits that are the start of a month
 module _ (s : List ℕ) (d : digits 12 s ≡ true) (e : exists (wholeMinute s) ≡ true) where
   l : length s ≡ 12
-  l = digits-facts 12 s d .0
+  l = digits-of 12 s d .long
 
   pub start-year : (2000 ≤ yearIn s) × (yearIn s ≤ 2099)
   start-year = let a = date-facts (wholeMinute s) e in (rw (year-whole s l) at (a .from2000), rw (year-whole s l) at (a .to2099))
@@ -135,13 +137,13 @@ module _ (s : List ℕ) (d : digits 12 s ≡ true) (e : exists (wholeMinute s) �
       let y₁ = y .1 in
       let n₀ = n .0 in
       let n₁ = n .1 in
-      let ds = digits-facts 12 s d .1 in
+      let ds = digits-of 12 s d .each in
       let ll = l in
       let few : length s ≤ 12 = omega arith in
       let ds₁ = digits-apart s 0 4 8 (ap allDigits (take-all 12 s few) ∙ ds) in
       let ds₂ = digits-apart s 4 2 6 (ds₁ .1) in
       let year : part s 0 4 ≡ decimal 4 (2000 + monthAt s / 12) =
-      sym (decimal-value (part s 0 4) 4 (part-long s 0 4 (omega arith)) (ds₁ .0)) ∙ ap (decimal 4) (omega arith) in
+      sym (decimal-value (part s 0 4) 4 (part-length s 0 4 (omega arith)) (ds₁ .0)) ∙ ap (decimal 4) (omega arith) in
       let month : part s 4 2 ≡ decimal 2 (monthAt s % 12 + 1) =
-      sym (decimal-value (part s 4 2) 2 (part-long s 4 2 (omega arith)) (ds₂ .0)) ∙ ap (decimal 2) (omega arith) in
+      sym (decimal-value (part s 4 2) 2 (part-length s 4 2 (omega arith)) (ds₂ .0)) ∙ ap (decimal 2) (omega arith) in
       piece s 0 4 year (piece s 4 2 month (piece s 6 6 (same-equal (part s 6 6) firstMoment b) (drop-of-length-le s few)))

@@ -16,10 +16,11 @@ use Rattle.rules.specs.Body.{Record, mostRates, flagDigits, nextDigits, formOfR
 use Rattle.rules.specs.File.{wholeMonth, monthsFrom, sum, checksumOf}
 use Rattle.rules.specs.Writer.{Fields, monthStart, monthRecord, monthRecords}
 use Rattle.rules.specs.declared.Format.{Format}
+use Rattle.laws.proofs.Tests.{both, join}
+use Rattle.laws.proofs.Facts.{digits-of, Digits}
 use Rattle.about_files.specs.Writing.{endToEnd}
-use Rattle.about_files.proofs.Booleans.{both, join}
 use Rattle.about_files.proofs.Numerals.{all-append, value-decimal, decimal-digits}
-use Rattle.about_files.proofs.Record.{facts-form, Digits, digits-of}
+use Rattle.about_files.proofs.Record.{facts-form}
 use Rattle.about_files.proofs.Calendar.{days-most, slotsFrom}
 use Rattle.about_files.proofs.MonthStart.{start-digits, start-begins, month-start, day-start, at-start, start-exists}
 
@@ -55,7 +56,8 @@ module _ (w : Fields) where
   months-every p h zero m rates = refl
   months-every p h (suc k) m rates = join (h m rates) (months-every p h k (suc m) (drop (slotsOfMonth m) rates))
 
-  pub months-rates : (k m : ℕ) (rates : List ℕ) → allAtMost highestRate rates ≡ true → every (λ r. allAtMost highestRate (r .rates)) (monthRecords w k m rates) ≡ true
+  pub months-rates : (k m : ℕ) (rates : List ℕ) → allAtMost highestRate rates ≡ true
+      → every (λ r. allAtMost highestRate (r .rates)) (monthRecords w k m rates) ≡ true
   unfolding monthRecords every
   months-rates zero m rates e = refl
   months-rates (suc k) m rates e =
@@ -98,7 +100,8 @@ module _ (w : Fields) where
             next = rw nx nothing;
           })
 
-  pub months-checksums : (k m : ℕ) (rates : List ℕ) → every (λ r. eqb (value (r .checksum)) (checksumOf (r .start) (r .rates))) (monthRecords w k m rates) ≡ true
+  pub months-checksums : (k m : ℕ) (rates : List ℕ)
+      → every (λ r. eqb (value (r .checksum)) (checksumOf (r .start) (r .rates))) (monthRecords w k m rates) ≡ true
   months-checksums =
       months-every (λ r. eqb (value (r .checksum)) (checksumOf (r .start) (r .rates)))
       (λ m rates.

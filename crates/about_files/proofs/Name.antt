@@ -10,16 +10,15 @@ use lib.Dec.{eqb, lit<}
 use lib.ListN.{length, length-append, length-map, drop-of-length-le}
 use borrow.Author.Tests.{eq-eqb, eqb-true}
 use Rattle.rules.specs.Digits.{part, value, decimal, allAscii, toAscii, fromAscii}
-use Rattle.rules.specs.Calendar.{exists}
-use Rattle.rules.specs.Name.{Name, formatNumber, formatOf, segmentFits, lawfulName, underscore, dotData, encodeName, nameLength, nameShape, nameFields, nameWith, parseName}
+use Rattle.rules.specs.Name.{Name, formatNumber, formatOf, lawfulName, underscore, dotData, encodeName, nameLength, nameShape, nameFields, nameWith, parseName}
 use Rattle.rules.specs.declared.Format.{Format}
 use Rattle.rules.specs.declared.Format.the-variants.{F201, F202, F203, F301}
+use Rattle.laws.proofs.Tests.{no-some}
+use Rattle.laws.proofs.Bytes.{equal-same, length-decimal, ascii-digits, part-length}
+use Rattle.laws.proofs.Facts.{NameShape, name-shape, LawfulName, name-facts}
 use Rattle.about_files.specs.Reading.{NameExactly}
-use Rattle.about_files.proofs.Booleans.{both, same-equal, equal-same}
-use Rattle.about_files.proofs.Numerals.{length-decimal, digits-decimal, value-decimal, decimal-value, from-to, to-from, ascii-digits, digits-ascii}
-use Rattle.about_files.proofs.Pieces.{piece, part-long, here, skip}
-use Rattle.about_files.proofs.Record.{Digits, digits-of}
-use Rattle.about_files.proofs.Body.{no-some}
+use Rattle.about_files.proofs.Numerals.{digits-decimal, value-decimal, decimal-value, from-to, to-from, digits-ascii}
+use Rattle.about_files.proofs.Pieces.{piece, here, skip}
 
 -- ---- the format's number
 pub format-back : (f : Format) → formatOf (formatNumber f) ≡ some f
@@ -49,65 +48,8 @@ number-small F202 = lit< tt
 number-small F203 = lit< tt
 number-small F301 = lit< tt
 
--- ---- what the tests say, fact by fact
-pub record Lawful (n : Name) : Type 0 where
-  pub segment : Digits 4 (n .segment)
-  pub fits : segmentFits (n .format) (n .segment) ≡ true
-  pub plant : Digits 26 (n .plant)
-  pub created : Digits 14 (n .created)
-  pub date : exists (n .created) ≡ true
-
-pub lawful-facts : (n : Name) → lawfulName n ≡ true → Lawful n
-unfolding lawfulName
-lawful-facts n e =
-    let e₄ = both _ _ e in
-    let e₃ = both _ _ (e₄ .0) in
-    let e₂ = both _ _ (e₃ .0) in
-    let e₁ = both _ _ (e₂ .0) in
-    record {
-      segment = digits-of 4 (n .segment) (e₁ .0);
-      fits = e₁ .1;
-      plant = digits-of 26 (n .plant) (e₂ .1);
-      created = digits-of 14 (n .created) (e₃ .1);
-      date = e₄ .1;
-    }
-
-record Shape (s : List ℕ) : Type 0 where
-  long : length s ≡ nameLength
-  format : allAscii (part s 0 3) ≡ true
-  mark₁ : part s 3 1 ≡ underscore
-  segment : allAscii (part s 4 4) ≡ true
-  mark₂ : part s 8 1 ≡ underscore
-  plant : allAscii (part s 9 26) ≡ true
-  mark₃ : part s 35 1 ≡ underscore
-  created : allAscii (part s 36 14) ≡ true
-  ending : part s 50 5 ≡ dotData
-
 module _ (s : List ℕ) where
-  shape-facts : nameShape s ≡ true → Shape s
-  unfolding nameShape
-  shape-facts e =
-      let e₈ = both _ _ e in
-      let e₇ = both _ _ (e₈ .0) in
-      let e₆ = both _ _ (e₇ .0) in
-      let e₅ = both _ _ (e₆ .0) in
-      let e₄ = both _ _ (e₅ .0) in
-      let e₃ = both _ _ (e₄ .0) in
-      let e₂ = both _ _ (e₃ .0) in
-      let e₁ = both _ _ (e₂ .0) in
-      record {
-        long = eqb-true _ _ (e₁ .0);
-        format = e₁ .1;
-        mark₁ = same-equal _ _ (e₂ .1);
-        segment = e₃ .1;
-        mark₂ = same-equal _ _ (e₄ .1);
-        plant = e₅ .1;
-        mark₃ = same-equal _ _ (e₆ .1);
-        created = e₇ .1;
-        ending = same-equal _ _ (e₈ .1);
-      }
-
-  facts-shape : Shape s → nameShape s ≡ true
+  facts-shape : NameShape s → nameShape s ≡ true
   unfolding nameShape
   facts-shape p =
       let m₁ = equal-same (p .mark₁) in
@@ -121,10 +63,10 @@ module _ (f : Format) (s : List ℕ) (h : nameShape s ≡ true) (v : value (from
   read-bytes : s ≡ encodeName (nameFields f s)
   unfolding encodeName
   read-bytes =
-      let p = shape-facts s h in
+      let p = name-shape s h in
       let l : length s ≡ 55 = p .long in
       let few : length s ≤ 55 = omega arith in
-      let d = decimal-value (fromAscii (part s 0 3)) 3 (length-map (part s 0 3) _ ∙ part-long s 0 3 (omega arith)) (ascii-digits (part s 0 3) (p .format)) in
+      let d = decimal-value (fromAscii (part s 0 3)) 3 (length-map (part s 0 3) _ ∙ part-length s 0 3 (omega arith)) (ascii-digits (part s 0 3) (p .format)) in
       let e : part s 0 3 ≡ toAscii (decimal 3 (formatNumber f)) =
       sym (ap (λ (k : ℕ). toAscii (decimal 3 k)) (sym v) ∙ ap toAscii d ∙ to-from (part s 0 3) (p .format)) in
       piece s 0 3 e
@@ -137,7 +79,7 @@ module _ (f : Format) (s : List ℕ) (h : nameShape s ≡ true) (v : value (from
       (piece s 50 5 (p .ending) (drop-of-length-le s few))))))))
 
 -- ---- a name's bytes are read as that name
-module _ (n : Name) (g : Lawful n) where
+module _ (n : Name) (g : LawfulName n) where
   abbrev number : List ℕ
   number = toAscii (decimal 3 (formatNumber (n .format)))
 
@@ -251,7 +193,7 @@ name-exactly s n = (to (nameShape s) refl, from)
 
     from : (s ≡ encodeName n) × (lawfulName n ≡ true) → parseName s ≡ some n
     from m =
-        let g = lawful-facts n (m .1) in
+        let g = name-facts n (m .1) in
         let f = bytes-fields n g in
         let x : lawfulName (nameFields (n .format) (encodeName n)) ≡ true = ap lawfulName f ∙ m .1 in
         rw (m .0) (rw (bytes-shape n g, bytes-format n g) (rw x (ap (λ (q : Name). some q) f)))

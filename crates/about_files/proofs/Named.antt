@@ -16,9 +16,10 @@ use Rattle.rules.specs.Body.{Record, countOf, tailDigits, formOfRecord, every, 
 use Rattle.rules.specs.Writer.{Fields, fieldRecords, monthsFit}
 use Rattle.rules.specs.declared.Format.{Format}
 use Rattle.rules.specs.declared.Format.the-variants.{F201, F202, F203, F301}
+use Rattle.laws.proofs.Tests.{both, join}
+use Rattle.laws.proofs.Bytes.{length-decimal}
 use Rattle.about_files.specs.Writing.{endToEnd, NameExists, WrittenLength}
-use Rattle.about_files.proofs.Booleans.{both, join}
-use Rattle.about_files.proofs.Numerals.{all-append, length-decimal, digits-decimal, value-decimal, facts-digits}
+use Rattle.about_files.proofs.Numerals.{all-append, digits-decimal, value-decimal, facts-digits}
 use Rattle.about_files.proofs.Pieces.{here, skip}
 use Rattle.about_files.proofs.Record.{form-facts, bytes-long}
 use Rattle.about_files.proofs.MonthStart.{at-small}

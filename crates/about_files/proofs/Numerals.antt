@@ -5,13 +5,14 @@ use mathlib.Core.Path.{_≡_, _∙_, refl, sym, ap, ap₂}
 use mathlib.Core.Bool.{Bool, true, _&&_, and-assoc}
 use mathlib.Core.List.{List, [], _∷_, _++_}
 use native.Mathlib.Nat.{pow-suc, add-zero}
-use native.Mathlib.Numerals.{add-one}
 use native.Mathlib.Omega.{arith}
-use lib.Dec.{leb, eqb, lit<}
-use lib.ListN.{length, length-append}
-use borrow.Author.Tests.{le-leb, leb-true, eqb-true, eq-eqb}
+use lib.Dec.{leb, lit<}
+use lib.ListN.{length}
+use borrow.Author.Tests.{le-leb, leb-true}
 use Rattle.rules.specs.Digits.{allAtMost, allDigits, digits, valueFrom, value, decimal, allAscii, toAscii, fromAscii}
-use Rattle.about_files.proofs.Booleans.{both, join}
+use Rattle.laws.proofs.Tests.{both, join}
+use Rattle.laws.proofs.Bytes.{length-decimal, more-digits}
+use Rattle.laws.proofs.Facts.{of-digits}
 
 pub all-append : (m : ℕ) (s t : List ℕ) → allAtMost m (s ++ t) ≡ (allAtMost m s && allAtMost m t)
 unfolding allAtMost
@@ -22,11 +23,6 @@ value-snoc : (s : List ℕ) (acc d : ℕ) → valueFrom acc (s ++ (d ∷ [])) �
 unfolding valueFrom
 value-snoc [] acc d = refl
 value-snoc (x ∷ s) acc d = value-snoc s (acc * 10 + x) d
-
-pub length-decimal : (k n : ℕ) → length (decimal k n) ≡ k
-unfolding decimal
-length-decimal zero n = refl
-length-decimal (suc k) n = length-append (decimal k (n / 10)) (n % 10 ∷ []) ∙ ap (λ (m : ℕ). m + 1) (length-decimal k (n / 10)) ∙ add-one k
 
 pub digits-decimal : (k n : ℕ) → allDigits (decimal k n) ≡ true
 unfolding decimal allAtMost
@@ -59,9 +55,6 @@ same-value (x ∷ s) (y ∷ t) a b l p q e =
     let x≡ : x ≡ y = omega arith in
     (omega arith, ap₂ (λ (z : ℕ) (zs : List ℕ). z ∷ zs) x≡ (r .1))
 
-more-digits : (v d i : ℕ) → v < 10 ^ i → d ≤ 9 → v * 10 + d < 10 ^ (i + 1)
-more-digits v d i h l = rw (add-one i, pow-suc 10 i) (omega arith)
-
 value-bound : (s : List ℕ) (acc i : ℕ) → acc < 10 ^ i → allDigits s ≡ true → valueFrom acc s < 10 ^ (i + length s)
 unfolding valueFrom allAtMost
 value-bound [] acc i h p = rw add-zero h
@@ -83,12 +76,8 @@ decimal-value s k l p =
     (value-decimal k (value s) (value-small s k l p)) .1
 
 -- ---- the test for k digits
-module _ (k : ℕ) (s : List ℕ) where
-  pub digits-facts : digits k s ≡ true → (length s ≡ k) × (allDigits s ≡ true)
-  digits-facts e = let p = both (eqb (length s) k) (allDigits s) e in (eqb-true (length s) k (p .0), p .1)
-
-  pub facts-digits : length s ≡ k → allDigits s ≡ true → digits k s ≡ true
-  facts-digits l p = join (eq-eqb (length s) k l) p
+pub facts-digits : (k : ℕ) (s : List ℕ) → length s ≡ k → allDigits s ≡ true → digits k s ≡ true
+facts-digits k s l p = of-digits k s (record { long = l; each = p })
 
 pub decimal-digits : (k n : ℕ) → digits k (decimal k n) ≡ true
 decimal-digits k n = facts-digits k (decimal k n) (length-decimal k n) (digits-decimal k n)
@@ -106,14 +95,6 @@ to-from (x ∷ s) e =
     let l = leb-true 48 x (both (leb 48 x) (leb x 57) (p .0) .0) in
     let h : x - 48 + 48 ≡ x = omega arith in
     rw (h, to-from s (p .1)) refl
-
-pub ascii-digits : (s : List ℕ) → allAscii s ≡ true → allDigits (fromAscii s) ≡ true
-unfolding allAscii allAtMost
-ascii-digits [] e = refl
-ascii-digits (x ∷ s) e =
-    let p = both (leb 48 x && leb x 57) (allAscii s) e in
-    let l = leb-true x 57 (both (leb 48 x) (leb x 57) (p .0) .1) in
-    join (le-leb (x - 48) 9 (omega arith)) (ascii-digits s (p .1))
 
 pub digits-ascii : (s : List ℕ) → allDigits s ≡ true → allAscii (toAscii s) ≡ true
 unfolding allAscii allAtMost

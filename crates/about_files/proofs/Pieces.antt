@@ -1,14 +1,13 @@
 -- Parts of a byte string: where they begin and end, and how they join.
 -- Assumes nothing.
-use Prim.Native.Nat.{ℕ, _+_, _≤_}
+use Prim.Native.Nat.{ℕ, _+_}
 use mathlib.Core.Path.{_≡_, _∙_, refl, sym, ap, subst}
 use mathlib.Core.Bool.{true}
 use mathlib.Core.List.{List, _++_}
-use native.Mathlib.Omega.{arith}
-use lib.ListN.{length, take, drop, length-drop, take-append-drop}
-use lib.Seq.{length-take-le, take-add, drop-drop, take-at, drop-append-add}
+use lib.ListN.{length, take, drop, take-append-drop}
+use lib.Seq.{take-add, drop-drop, take-at, drop-append-add}
 use Rattle.rules.specs.Digits.{part, allDigits}
-use Rattle.about_files.proofs.Booleans.{both}
+use Rattle.laws.proofs.Tests.{both}
 use Rattle.about_files.proofs.Numerals.{all-append}
 
 pub chop : (s : List ℕ) (i k : ℕ) {x : List ℕ} → drop (i + k) s ≡ x → drop i s ≡ part s i k ++ x
@@ -16,9 +15,6 @@ chop s i k e = sym (take-append-drop k (drop i s)) ∙ ap (λ (r : List ℕ). pa
 
 pub piece : (s : List ℕ) (i k : ℕ) {x y : List ℕ} → part s i k ≡ y → drop (i + k) s ≡ x → drop i s ≡ y ++ x
 piece s i k {x} p e = chop s i k e ∙ ap (λ (q : List ℕ). q ++ x) p
-
-pub part-long : (s : List ℕ) (i k : ℕ) → i + k ≤ length s → length (part s i k) ≡ k
-part-long s i k h = length-take-le k (drop i s) (simp length-drop (omega arith))
 
 part-add : (s : List ℕ) (i a b : ℕ) → part s i (a + b) ≡ part s i a ++ part s (i + a) b
 part-add s i a b = take-add a b (drop i s) ∙ ap (λ (r : List ℕ). part s i a ++ take b r) (drop-drop a i s)

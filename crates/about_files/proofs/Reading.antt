@@ -11,8 +11,9 @@ use Rattle.rules.specs.Body.{Body, parseBody, isSchedule}
 use Rattle.rules.specs.File.{File, Outcome, refuse, file, idFits, datesHold, ratesHold, checksumsHold, plantsHold, stages, withBody, withName, readFile, isRegistration, takeFile, lawful}
 use Rattle.rules.specs.Table.{need}
 use Rattle.rules.specs.declared.Cause.{Cause}
+use Rattle.laws.proofs.Tests.{both, join}
+use Rattle.laws.proofs.Bytes.{same-equal, equal-same}
 use Rattle.about_files.specs.Reading.{LawfulBytes, ReadExactly, accepted, AcceptedExactly, RefusedExactly, OneFile, Rules, FileBytes, ReadWithoutPlant, ReadWithPlant, TakenExactly}
-use Rattle.about_files.proofs.Booleans.{both, join, same-equal, equal-same}
 use Rattle.about_files.proofs.Name.{name-exactly}
 use Rattle.about_files.proofs.Body.{body-exactly}
 

@@ -5,28 +5,17 @@ use mathlib.Core.Path.{_≡_, _∙_, refl, ap}
 use mathlib.Core.Bool.{true}
 use mathlib.Core.List.{List, _++_, append-assoc}
 use native.Mathlib.Omega.{arith}
-use lib.Dec.{lit≤}
 use lib.ListN.{length, drop, length-append}
 use lib.Seq.{drop-at}
 use borrow.Author.Tests.{le-leb, leb-true}
-use Rattle.rules.specs.Digits.{part, allDigits, digits, value, decimal}
+use Rattle.rules.specs.Digits.{part, allDigits, value, decimal}
 use Rattle.rules.specs.Body.{Record, mostRates, flagDigits, nextDigits, tailDigits, ratesOf, sizeOf, recordShape, recordAt, encodeRecord, formOfRecord}
 use Rattle.rules.specs.declared.Format.{Format}
-use Rattle.rules.specs.declared.Format.the-variants.{F201, F202, F203, F301}
-use Rattle.about_files.proofs.Booleans.{both, join}
-use Rattle.about_files.proofs.Numerals.{length-decimal, digits-decimal, value-decimal, decimal-value, digits-facts, facts-digits}
-use Rattle.about_files.proofs.Pieces.{chop, part-long, digits-apart, digits-joined, here, skip}
-
-most-bound : (f : Format) → mostRates f ≤ 99999
-most-bound F201 = lit≤ tt
-most-bound F202 = lit≤ tt
-most-bound F203 = lit≤ tt
-most-bound F301 = lit≤ tt
-
--- k digits, as facts
-pub record Digits (k : ℕ) (s : List ℕ) : Type 0 where
-  pub long : length s ≡ k
-  pub each : allDigits s ≡ true
+use Rattle.laws.proofs.Tests.{both, join}
+use Rattle.laws.proofs.Bytes.{length-decimal, part-length}
+use Rattle.laws.proofs.Facts.{most-bound, digits-of, of-digits, Digits, RecordShape, record-shape}
+use Rattle.about_files.proofs.Numerals.{digits-decimal, value-decimal, decimal-value}
+use Rattle.about_files.proofs.Pieces.{chop, digits-apart, digits-joined, here, skip}
 
 -- what `formOfRecord` says, fact by fact
 pub record Form (f : Format) (r : Record) : Type 0 where
@@ -37,12 +26,6 @@ pub record Form (f : Format) (r : Record) : Type 0 where
   pub flag : Digits (flagDigits f) (r .flag)
   pub checksum : Digits 2 (r .checksum)
   pub next : Digits (nextDigits f) (r .next)
-
-pub digits-of : (k : ℕ) (s : List ℕ) → digits k s ≡ true → Digits k s
-digits-of k s e = let p = digits-facts k s e in record { long = p .0; each = p .1 }
-
-pub of-digits : (k : ℕ) (s : List ℕ) → Digits k s → digits k s ≡ true
-of-digits k s d = facts-digits k s (d .long) (d .each)
 
 module _ (f : Format) (r : Record) where
   pub form-facts : formOfRecord f r ≡ true → Form f r
@@ -79,34 +62,8 @@ module _ (f : Format) (r : Record) where
       (of-digits 2 (r .checksum) (g .checksum)))
       (of-digits (nextDigits f) (r .next) (g .next))
 
--- what `recordShape` says, fact by fact
-record Shape (f : Format) (s : List ℕ) : Type 0 where
-  room : 53 ≤ length s
-  head : allDigits (part s 0 48) ≡ true
-  count : allDigits (part s 48 5) ≡ true
-  most : ratesOf s ≤ mostRates f
-  size : sizeOf f s ≤ length s
-  tail : allDigits (part s (53 + ratesOf s) (tailDigits f)) ≡ true
-
 module _ (f : Format) (s : List ℕ) where
-  shape-facts : recordShape f s ≡ true → Shape f s
-  unfolding recordShape
-  shape-facts e =
-      let e₅ = both _ _ e in
-      let e₄ = both _ _ (e₅ .0) in
-      let e₃ = both _ _ (e₄ .0) in
-      let e₂ = both _ _ (e₃ .0) in
-      let e₁ = both _ _ (e₂ .0) in
-      record {
-        room = leb-true _ _ (e₁ .0);
-        head = e₁ .1;
-        count = e₂ .1;
-        most = leb-true _ _ (e₃ .1);
-        size = leb-true _ _ (e₄ .1);
-        tail = e₅ .1;
-      }
-
-  facts-shape : Shape f s → recordShape f s ≡ true
+  facts-shape : RecordShape f s → recordShape f s ≡ true
   unfolding recordShape
   facts-shape p =
       simp (le-leb 53 (length s) (p .room), p .head, p .count, le-leb (ratesOf s) (mostRates f) (p .most), le-leb (sizeOf f s) (length s) (p .size), p .tail)
@@ -116,14 +73,14 @@ tail-is f = omega arith
 
 count-back : (s : List ℕ) → 53 ≤ length s → allDigits (part s 48 5) ≡ true → decimal 5 (ratesOf s) ≡ part s 48 5
 unfolding ratesOf
-count-back s h d = decimal-value (part s 48 5) 5 (part-long s 48 5 h) d
+count-back s h d = decimal-value (part s 48 5) 5 (part-length s 48 5 h) d
 
 -- ---- what is read as a record is that record's bytes
 module _ (f : Format) (s : List ℕ) (h : recordShape f s ≡ true) where
   pub read-form : Form f (recordAt f s)
   unfolding recordAt sizeOf
   read-form =
-      let p = shape-facts f s h in
+      let p = record-shape f s h in
       let n = ratesOf s in
       let room : 53 ≤ length s = p .room in
       let size : 53 + n + tailDigits f ≤ length s = p .size in
@@ -133,26 +90,26 @@ module _ (f : Format) (s : List ℕ) (h : recordShape f s ≡ true) where
       let d₃ = digits-apart s (53 + n) (flagDigits f) (2 + nextDigits f) (rw tl at (p .tail)) in
       let d₄ = digits-apart s (53 + n + flagDigits f) 2 (nextDigits f) (d₃ .1) in
       record {
-        schedule = record { long = part-long s 0 10 (omega arith); each = d₁ .0 };
-        plant = record { long = part-long s 10 26 (omega arith); each = d₂ .0 };
-        start = record { long = part-long s 36 12 (omega arith); each = d₂ .1 };
-        few = rw (part-long s 53 n (omega arith)) (p .most);
-        flag = record { long = part-long s (53 + n) (flagDigits f) (omega arith); each = d₃ .0 };
-        checksum = record { long = part-long s (53 + n + flagDigits f) 2 (omega arith); each = d₄ .0 };
-        next = record { long = part-long s (53 + n + flagDigits f + 2) (nextDigits f) (omega arith); each = d₄ .1 };
+        schedule = record { long = part-length s 0 10 (omega arith); each = d₁ .0 };
+        plant = record { long = part-length s 10 26 (omega arith); each = d₂ .0 };
+        start = record { long = part-length s 36 12 (omega arith); each = d₂ .1 };
+        few = rw (part-length s 53 n (omega arith)) (p .most);
+        flag = record { long = part-length s (53 + n) (flagDigits f) (omega arith); each = d₃ .0 };
+        checksum = record { long = part-length s (53 + n + flagDigits f) 2 (omega arith); each = d₄ .0 };
+        next = record { long = part-length s (53 + n + flagDigits f + 2) (nextDigits f) (omega arith); each = d₄ .1 };
       }
 
   pub read-bytes : s ≡ encodeRecord (recordAt f s) ++ drop (sizeOf f s) s
   unfolding recordAt encodeRecord sizeOf
   read-bytes =
-      let p = shape-facts f s h in
+      let p = record-shape f s h in
       let n = ratesOf s in
       let room : 53 ≤ length s = p .room in
       let size : 53 + n + tailDigits f ≤ length s = p .size in
       let tl = tail-is f in
       let end : 53 + n + flagDigits f + 2 + nextDigits f ≡ 53 + n + tailDigits f = omega arith in
       let count : decimal 5 (length (part s 53 n)) ≡ part s 48 5 =
-      rw (part-long s 53 n (omega arith)) (count-back s room (p .count)) in
+      rw (part-length s 53 n (omega arith)) (count-back s room (p .count)) in
       rw count
       (simp append-assoc
       (chop s 0 10 (chop s 10 26 (chop s 36 12 (chop s 48 5 (chop s 53 n (chop s (53 + n) (flagDigits f) (chop s (53 + n + flagDigits f) 2

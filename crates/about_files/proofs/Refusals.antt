@@ -6,9 +6,8 @@ use mathlib.Core.Bool.{Bool, true, false, cond, not, _&&_, _||_, Bool·not-not}
 use mathlib.Core.List.{List, [], _∷_}
 use mathlib.Core.Logic.{_↔_}
 use mathlib.Core.Option.{Option, none, some, Option·some-ne-none}
-use lib.Dec.{leb, ltb, eqb}
+use lib.Dec.{leb, eqb}
 use lib.ListN.{length}
-use borrow.Author.Tests.{leb-true, leb-false, lt-ltb, le-ltb}
 use Rattle.rules.specs.Digits.{digits, allAtMost}
 use Rattle.rules.specs.Plant.{plantId, macAddress}
 use Rattle.rules.specs.Name.{formatOf, formatNumber, anySegment}
@@ -21,15 +20,15 @@ use Rattle.rules.specs.Rows.{flagBreaks, formatBreaks, digitsBreak, datesBreak,
 use Rattle.rules.specs.declared.Cause.{Cause}
 use Rattle.rules.specs.declared.Format.{Format}
 use Rattle.rules.specs.declared.Format.the-variants.{F201, F202, F203, F301}
+use Rattle.laws.proofs.Tests.{no-some, below-is}
 use Rattle.about_files.specs.Refusals.{RefusesExactly, WritesExactly, RequestRefuses, RequestWrites}
 use Rattle.about_files.proofs.Name.{format-number}
-use Rattle.about_files.proofs.Body.{no-some}
 use Rattle.about_files.proofs.Table.{rising, answerBy, answer-refuses, answer-given}
 
 -- ---- an output that rows decide
 
 -- rows judged one after the other, and the output where none applies
-abbrev judged : List Row → List ℕ → Output
+abbrev pub judged : List Row → List ℕ → Output
 judged [] b = bytes b
 judged (r ∷ rs) b = need (not (r .applies)) (refuse (r .cause)) (judged rs b)
 
@@ -48,10 +47,10 @@ judged-first (r ∷ rs) b = go (r .applies) (judged-first rs b)
     go false e = e
 
 module _ (rows : List Row) (b : List ℕ) where
-  judged-refuses : rising rows ≡ true → (c : Cause) → (judged rows b ≡ refuse c) ↔ Lowest rows c
+  pub judged-refuses : rising rows ≡ true → (c : Cause) → (judged rows b ≡ refuse c) ↔ Lowest rows c
   judged-refuses rise c = rw (judged-first rows b) (answer-refuses refuse (bytes b) causeOf (λ d. refl) refl rows rise c)
 
-  judged-writes : (d : List ℕ) → (judged rows b ≡ bytes d) ↔ (((c : Cause) → appliesIn rows c ≡ false) × (d ≡ b))
+  pub judged-writes : (d : List ℕ) → (judged rows b ≡ bytes d) ↔ (((c : Cause) → appliesIn rows c ≡ false) × (d ≡ b))
   judged-writes d = rw (judged-first rows b) (go (firstOf rows) (answer-given refuse (bytes b) causeOf (λ c. refl) refl rows))
     where
       go : (o : Option Cause) → (answerBy refuse (bytes b) o ≡ bytes b) ↔ ((c : Cause) → appliesIn rows c ≡ false)
@@ -60,15 +59,8 @@ module _ (rows : List Row) (b : List ℕ) where
       go (some c) i = (λ e. absurd (Option·some-ne-none c (ap causeOf e)), λ h. absurd (Option·some-ne-none c (ap causeOf (i .1 (h .0)))))
 
 -- ---- laws of the tests
-above-is : (b a : ℕ) → ltb b a ≡ not (leb a b)
-above-is b a = go (leb a b) refl
-  where
-    go : (t : Bool) → leb a b ≡ t → ltb b a ≡ not t
-    go true e = le-ltb b a (leb-true a b e)
-    go false e = lt-ltb b a (leb-false a b e)
-
-room-is : (b : List ℕ) (room : ℕ) → not (roomBreaks b room) ≡ leb (length b) room
-room-is b room = ap not (above-is room (length b)) ∙ Bool·not-not (leb (length b) room)
+pub room-is : (b : List ℕ) (room : ℕ) → not (roomBreaks b room) ≡ leb (length b) room
+room-is b room = ap not (below-is room (length b)) ∙ Bool·not-not (leb (length b) room)
 
 flag-law : (a p q : Bool) → not (not a && not (p || q)) ≡ (a || p || q)
 flag-law true true q = refl
@@ -102,7 +94,7 @@ second-law false = refl
 
 module _ (w : Fields) (room : ℕ) where
   flag-is : not (flagBreaks w) ≡ flagFits w
-  flag-is = rw (above-is 9 (w .flag)) (flag-law (leb (w .flag) 9) (eqb (w .format) 201) (eqb (w .format) 202))
+  flag-is = rw (below-is 9 (w .flag)) (flag-law (leb (w .flag) 9) (eqb (w .format) 201) (eqb (w .format) 202))
 
   -- from the format on
   abbrev rest : Output
@@ -148,16 +140,18 @@ module _ (w : Fields) (room : ℕ) where
   rest-is none e = no-rest (no-number e)
   rest-is (some F201) e =
       let a = number-is F201 e in
-      rest-with true (digitsFit F201 w) (monthsFit 13 w) (simp (a .is201, a .is202, a .is203)) (rw (a .is203) (two-law (digits 10 (w .schedule)) (digits 12 (w .start))))
+      rest-with true (digitsFit F201 w) (monthsFit 13 w) (simp (a .is201, a .is202, a .is203))
+      (rw (a .is203) (two-law (digits 10 (w .schedule)) (digits 12 (w .start))))
       (simp (a .is201, a .is202, a .is203) (first-law (monthsFit 13 w))) (ap (λ (o : Option Format). encodeBody (schedule (recordsFor o w))) e)
   rest-is (some F202) e =
       let a = number-is F202 e in
-      rest-with true (digitsFit F202 w) (monthsFit 1 w) (simp (a .is201, a .is202, a .is203)) (rw (a .is203) (two-law (digits 10 (w .schedule)) (digits 12 (w .start))))
+      rest-with true (digitsFit F202 w) (monthsFit 1 w) (simp (a .is201, a .is202, a .is203))
+      (rw (a .is203) (two-law (digits 10 (w .schedule)) (digits 12 (w .start))))
       (simp (a .is201, a .is202, a .is203) (second-law (monthsFit 1 w))) (ap (λ (o : Option Format). encodeBody (schedule (recordsFor o w))) e)
   rest-is (some F203) e =
       let a = number-is F203 e in
       rest-with true (digitsFit F203 w) (updateDates (updateRecord w)) (simp (a .is201, a .is202, a .is203))
-      (rw (a .is203, above-is 336 (length (w .rates)))
+      (rw (a .is203, below-is 336 (length (w .rates)))
       (four-law (digits 10 (w .schedule)) (digits 12 (w .start)) (digits 14 (w .next)) (leb (length (w .rates)) 336)))
       (simp (a .is201, a .is202, a .is203) (Bool·not-not (updateDates (updateRecord w)))) (ap (λ (o : Option Format). encodeBody (schedule (recordsFor o w))) e)
   rest-is (some F301) e = no-rest (number-is F301 e)

@@ -11,22 +11,24 @@ use lib.ListN.{length, getD, length-append}
 use lib.Seq.{take-at, drop-at}
 use borrow.Author.Tests.{le-leb, eq-eqb, eqb-true}
 use Rattle.rules.specs.Digits.{allAtMost, digits, value, decimal, sameBytes}
-use Rattle.rules.specs.Calendar.{exists, monthAt, wholeMinute, slotsOfMonth, firstSlot, monthCount}
+use Rattle.rules.specs.Calendar.{monthAt, slotsOfMonth, firstSlot, monthCount}
 use Rattle.rules.specs.Plant.{plantId}
 use Rattle.rules.specs.Name.{Name, formatOf, segmentMonth}
 use Rattle.rules.specs.Body.{Record, schedule, countOf, flagDigits, nextDigits, formOfRecord, every, isSchedule, formOfBody, encodeBody, highestRate}
-use Rattle.rules.specs.File.{File, monthBegins, wholeMonth, monthsFrom, updateDates, recordDates, datesHold, ratesHold, checksumsHold, plantsHold, checksumOf}
+use Rattle.rules.specs.File.{File, monthsFrom, updateDates, recordDates, datesHold, ratesHold, checksumsHold, plantsHold, checksumOf, wholeMonth}
 use Rattle.rules.specs.Writer.{Fields, bytes, fieldRecords, monthStart, monthRecord, monthRecords, updateRecord, digitsFit, monthsFit, writeBody}
 use Rattle.rules.specs.declared.Format.{Format}
 use Rattle.rules.specs.declared.Format.the-variants.{F201, F202, F203, F301}
+use Rattle.laws.proofs.Tests.{both, join}
+use Rattle.laws.proofs.Bytes.{same-equal, same-self, at-most-at}
+use Rattle.laws.proofs.Facts.{of-digits, Digits, month-facts, WholeMonth}
 use Rattle.about_files.specs.Reading.{FileBytes}
 use Rattle.about_files.specs.Writing.{endToEnd, sharedSchedule, fieldsOf, ReadWritten, ReadWrittenWithPlant}
-use Rattle.about_files.proofs.Booleans.{both, join, same-equal, same-self}
 use Rattle.about_files.proofs.Numerals.{all-append, decimal-value}
-use Rattle.about_files.proofs.Record.{Form, form-facts, Digits, of-digits}
+use Rattle.about_files.proofs.Record.{Form, form-facts}
 use Rattle.about_files.proofs.Name.{format-back}
 use Rattle.about_files.proofs.Body.{schedule-facts}
-use Rattle.about_files.proofs.Calendar.{getD-most, slotsFrom, slots-between}
+use Rattle.about_files.proofs.Calendar.{slotsFrom, slots-between}
 use Rattle.about_files.proofs.MonthStart.{at-small, start-is}
 use Rattle.about_files.proofs.Reading.{read-without-plant, read-with-plant}
 use Rattle.about_files.proofs.Written.{Fit, facts-written}
@@ -61,19 +63,6 @@ rates-joined (r ∷ rs) e =
     all-append highestRate (r .rates) (endToEnd rs) ∙ join (p .0) (rates-joined rs (p .1))
 
 -- ---- a month's record
-record Month (m : ℕ) (r : Record) : Type 0 where
-  date : exists (wholeMinute (r .start)) ≡ true
-  at : monthAt (r .start) ≡ m
-  begins : monthBegins (r .start) ≡ true
-  long : length (r .rates) ≡ slotsOfMonth m
-
-month-facts : (m : ℕ) (r : Record) → wholeMonth m r ≡ true → Month m r
-unfolding wholeMonth
-month-facts m r e =
-    let p = both _ _ e in
-    let q = both _ _ (p .0) in
-    let s = both _ _ (q .0) in
-    record { date = s .0; at = eqb-true _ _ (s .1); begins = q .1; long = eqb-true _ _ (p .1) }
 
 -- what is needed of each record, beside its month
 abbrev fine : Format → Fields → Record → Bool
@@ -92,7 +81,7 @@ module _ (f : Format) (fl : flagDigits f ≡ 0) (nx : nextDigits f ≡ 0) (w : F
       let g = form-facts f r (s .0) in
       let d = month-facts m r e in
       let st : monthStart m ≡ r .start =
-      sym (start-is (r .start) (of-digits 12 (r .start) (g .start)) (d .date) (d .begins) ∙ ap monthStart (d .at)) in
+      sym (start-is (r .start) (of-digits 12 (r .start) (g .start)) (d .date) (d .begins) ∙ ap monthStart (d .month)) in
       same-record (monthRecord w m (r .rates)) r (sym (same-equal _ _ (p .1))) (sym (same-equal _ _ (q .1))) st refl
       (none-left (r .flag) (g .flag .long ∙ fl))
       (ap (λ (x : List ℕ). decimal 2 (checksumOf x (r .rates))) st ∙ sum-back r (g .checksum) (s .1))
@@ -104,7 +93,7 @@ module _ (f : Format) (fl : flagDigits f ≡ 0) (nx : nextDigits f ≡ 0) (w : F
   months-back (r ∷ rs) m e h =
       let p = both (wholeMonth m r) (monthsFrom (suc m) rs) e in
       let q = both (fine f w r) (every (fine f w) rs) h in
-      let l = month-facts m r (p .0) .long in
+      let l = month-facts m r (p .0) .full in
       rw (take-at (r .rates) (endToEnd rs) (slotsOfMonth m) l, drop-at (r .rates) (endToEnd rs) (slotsOfMonth m) l)
       (ap₂ (λ (x : Record) (xs : List Record). x ∷ xs) (record-back m r (p .0) (q .0)) (months-back rs (suc m) (p .1) (q .1)))
 
@@ -113,10 +102,11 @@ unfolding monthsFrom slotsFrom
 months-long [] m e = refl
 months-long (r ∷ rs) m e =
     let p = both (wholeMonth m r) (monthsFrom (suc m) rs) e in
-    length-append (r .rates) (endToEnd rs) ∙ ap₂ _+_ (month-facts m r (p .0) .long) (months-long rs (suc m) (p .1))
+    length-append (r .rates) (endToEnd rs) ∙ ap₂ _+_ (month-facts m r (p .0) .full) (months-long rs (suc m) (p .1))
 
 -- the last month ends by the end of 2099
-months-inside : (f : Format) (rs : List Record) (m : ℕ) → every (formOfRecord f) rs ≡ true → monthsFrom m rs ≡ true → m ≤ monthCount → m + length rs ≤ monthCount
+months-inside : (f : Format) (rs : List Record) (m : ℕ) → every (formOfRecord f) rs ≡ true → monthsFrom m rs ≡ true
+    → m ≤ monthCount → m + length rs ≤ monthCount
 unfolding monthsFrom every
 months-inside f [] m g e h = omega arith
 months-inside f (r ∷ rs) m g e h =
@@ -124,7 +114,7 @@ months-inside f (r ∷ rs) m g e h =
     let q = both (formOfRecord f r) (every (formOfRecord f) rs) g in
     let d = month-facts m r (p .0) in
     let x = at-small (r .start) (of-digits 12 (r .start) (form-facts f r (q .0) .start)) (d .date) in
-    let a = d .at in
+    let a = d .month in
     let i = months-inside f rs (suc m) (q .1) (p .1) (omega arith) in
     omega arith
 
@@ -185,7 +175,7 @@ module _ (f : Format) (id : List ℕ) (r : Record) (rs : List Record) (k : Known
 
   -- the fields of whole months
   module _ (m : ℕ) (dated : monthsFrom m (r ∷ rs) ≡ true) where
-    first-month : Month m r
+    first-month : WholeMonth m r
     unfolding monthsFrom
     first-month = month-facts m r (both (wholeMonth m r) (monthsFrom (suc m) rs) dated .0)
 
@@ -194,7 +184,7 @@ module _ (f : Format) (id : List ℕ) (r : Record) (rs : List Record) (k : Known
     months-fit =
         let d = first-month in
         let date = d .date in
-        let at = d .at in
+        let at = d .month in
         let begins = d .begins in
         let small = at-small (r .start) start-digits date in
         let inside = months-inside f (r ∷ rs) m (k .form) dated (omega arith) in
@@ -203,7 +193,7 @@ module _ (f : Format) (id : List ℕ) (r : Record) (rs : List Record) (k : Known
         rw at (join (join (join date begins) (le-leb (m + suc (length rs)) monthCount inside)) (eq-eqb _ _ long))
 
     months-made : flagDigits f ≡ 0 → nextDigits f ≡ 0 → monthRecords w (suc (length rs)) (monthAt (w .start)) (w .rates) ≡ r ∷ rs
-    months-made fl nx = rw (first-month .at) (months-back f fl nx w (r ∷ rs) m dated all-fine)
+    months-made fl nx = rw (first-month .month) (months-back f fl nx w (r ∷ rs) m dated all-fine)
 
 -- ---- each format
 back-201 : (id : List ℕ) (r : Record) (rs : List Record) → Known F201 id (r ∷ rs) → monthsFrom (monthAt (r .start)) (r ∷ rs) ≡ true → Back F201 (r ∷ rs)
@@ -249,7 +239,7 @@ back-203 id r [] k dated =
     let g = first-form F203 id r [] k in
     let e = both (eqb (value (r .checksum)) (checksumOf (r .start) (r .rates))) true (k .checksums) .0 in
     let made = update-made r g e in
-    let flag = le-leb (getD (r .flag) 0 0) 9 (getD-most 9 (r .flag) 0 (g .flag .each)) in
+    let flag = le-leb (getD (r .flag) 0 0) 9 (at-most-at 9 (r .flag) 0 (g .flag .each)) in
     let few : leb (length (r .rates ++ [])) 336 ≡ true = rw append-nil (le-leb (length (r .rates)) 336 (g .few)) in (
       record {
         plant = plant-is F203 id r [] k;

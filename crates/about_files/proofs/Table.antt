@@ -12,7 +12,7 @@ use borrow.Author.Tests.{leb-true, ltb-true, ltb-false, eqb-true, eq-eqb}
 use Rattle.rules.specs.Causes.{numberOf}
 use Rattle.rules.specs.Table.{Row, firstOf, placeOf, isCause, appliesIn, Lowest}
 use Rattle.rules.specs.declared.Cause.{Cause}
-use Rattle.about_files.proofs.Booleans.{both}
+use Rattle.laws.proofs.Tests.{both, neither}
 use Rattle.about_files.proofs.Causes.{same-cause}
 
 -- the rows' places rise, from k on
@@ -37,10 +37,6 @@ is-other c d l = go (isCause c d) refl
     go true e = let p = ap placeOf (is-same c d e) in absurd (omega arith)
     go false e = refl
 
-neither : {x y : Bool} → (x || y) ≡ false → (x ≡ false) × (y ≡ false)
-neither {x = true} e = absurd (false≢true (sym e))
-neither {x = false} e = (refl, e)
-
 -- ---- none applies
 
 pub first-none : (rows : List Row) → (firstOf rows ≡ none) ↔ ((c : Cause) → appliesIn rows c ≡ false)
@@ -51,7 +47,7 @@ first-none (r ∷ rs) = go (r .applies) (first-none rs)
     go : (t : Bool) → (firstOf rs ≡ none) ↔ ((c : Cause) → appliesIn rs c ≡ false)
         → (cond t (some (r .cause)) (firstOf rs) ≡ none) ↔ ((c : Cause) → (t && isCause (r .cause) c || appliesIn rs c) ≡ false)
     go true i =
-        (λ e. absurd (Option·some-ne-none (r .cause) e), λ h. absurd (false≢true (sym (neither (h (r .cause)) .0) ∙ is-itself (r .cause))))
+        (λ e. absurd (Option·some-ne-none (r .cause) e), λ h. absurd (false≢true (sym (neither _ _ (h (r .cause)) .0) ∙ is-itself (r .cause))))
     go false i = i
 
 -- ---- the first that applies
@@ -149,7 +145,8 @@ answerBy refusal answer none = answer
 answerBy refusal answer (some c) = refusal c
 
 -- `causeOf` tells the refusals from the answer, and one from another
-module _ {A : Type 0} (refusal : Cause → A) (answer : A) (causeOf : A → Option Cause) (some-of : (c : Cause) → causeOf (refusal c) ≡ some c) (none-of : causeOf answer ≡ none) where
+module _ {A : Type 0} (refusal : Cause → A) (answer : A) (causeOf : A → Option Cause)
+    (some-of : (c : Cause) → causeOf (refusal c) ≡ some c) (none-of : causeOf answer ≡ none) where
   cause-is : (o : Option Cause) → causeOf (answerBy refusal answer o) ≡ o
   cause-is none = none-of
   cause-is (some c) = some-of c

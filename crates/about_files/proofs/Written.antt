@@ -20,11 +20,13 @@ use Rattle.rules.specs.Table.{need}
 use Rattle.rules.specs.declared.Cause.{Cause}
 use Rattle.rules.specs.declared.Format.{Format}
 use Rattle.rules.specs.declared.Format.the-variants.{F201, F202, F203, F301}
+use Rattle.laws.proofs.Tests.{both, join}
+use Rattle.laws.proofs.Bytes.{same-self, equal-same}
+use Rattle.laws.proofs.Facts.{digits-of}
 use Rattle.about_files.specs.Reading.{Rules}
 use Rattle.about_files.specs.Writing.{NameFor, Carries, fileFor, WrittenReads, firstStart}
-use Rattle.about_files.proofs.Booleans.{both, join, equal-same, same-self}
 use Rattle.about_files.proofs.Numerals.{decimal-digits}
-use Rattle.about_files.proofs.Record.{Form, facts-form, digits-of}
+use Rattle.about_files.proofs.Record.{Form, facts-form}
 use Rattle.about_files.proofs.Name.{format-number}
 use Rattle.about_files.proofs.Body.{facts-schedule}
 use Rattle.about_files.proofs.Calendar.{slotsFrom, slots-between}

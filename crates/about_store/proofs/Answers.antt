@@ -10,6 +10,7 @@ use Rattle.rules.specs.Calendar.{firstSlot, slotsOfMonth, monthOfSlot, slotCoun
 use Rattle.rules.specs.File.{File, recordsIn}
 use Rattle.rules.specs.Store.{blockCount}
 use Rattle.rules.specs.Machine.{Machine, rateOf, isHeld, heldCount, countBelow, withFile}
+use Rattle.laws.proofs.Tests.{same}
 use Rattle.calendar.proofs.Laws.{first-slot-step, slot-month-from, slot-month-until}
 use Rattle.pool.specs.Blocks.{freeCount}
 use Rattle.pool.specs.Held.{soundPool}
@@ -17,7 +18,6 @@ use Rattle.pool.proofs.SoundLaws.{facts-pool}
 use Rattle.schedule.specs.Stored.{Stored, storedRate, missing}
 use Rattle.about_store.specs.Agrees.{rateAt, Agrees}
 use Rattle.about_store.specs.Run.{GoodFile, runStart, runLength}
-use Rattle.about_store.proofs.Bools.{same}
 use Rattle.about_store.proofs.View.{View, count-view}
 use Rattle.about_store.proofs.Shown.{rate-view}
 use Rattle.about_store.proofs.Records.{viewOf, view-file}

@@ -2,7 +2,6 @@
 use mathlib.Core.Path.{_≡_, refl, sym, ap, _∙_}
 use mathlib.Core.Bool.{Bool, true, false, cond, not, _&&_, Bool·beq}
 use mathlib.Core.List.{_∷_, map}
-use mathlib.Core.Option.{none}
 use Prim.Native.Nat.{ℕ, zero, suc, _+_, _≤_, _<_}
 use native.Mathlib.Omega.{arith}
 use native.Mathlib.Nat.{add-zero, zero-add}
@@ -12,12 +11,12 @@ use lib.Seq.{ext-getD}
 use borrow.Author.Tests.{eq-eqb}
 use Rattle.rules.specs.Store.{Held as HeldMonth, storeLength, blockOf, noRate, toByte, member, distinct, all, allBelow, soundMonths, soundBlocks, soundStore, blockCount, blockLength}
 use Rattle.rules.specs.Machine.{Machine, isHeld}
+use Rattle.laws.proofs.Tests.{both}
 use Rattle.pool.specs.Blocks.{isFree, monthOf}
 use Rattle.pool.specs.Held.{InBlock, heldBelow, heldOf, soundPool}
 use Rattle.pool.proofs.SoundLaws.{facts-pool}
 use Rattle.schedule.specs.Stored.{Stored, storeHolds}
 use Rattle.about_store.specs.Agrees.{rateAt, bytesFrom, monthBytes, BlocksHave, Agrees}
-use Rattle.about_store.proofs.Bools.{and-left, and-right}
 use Rattle.about_store.proofs.Given.{member-held, held-months}
 use Rattle.about_store.proofs.Shown.{block-length, block-at, store-view}
 use Rattle.about_store.proofs.Records.{viewOf}
@@ -84,5 +83,5 @@ module _ (st : Stored) (M : Machine) (a : Agrees st M) where
       let free = isFree (st .pool) in
       let months = map (λ (h : HeldMonth). h .month) (heldOf (st .pool)) in
       let blocks = map (λ (h : HeldMonth). h .block) (heldOf (st .pool)) in
-      let e = and-right (soundMonths (M .floor) months) (soundBlocks free blocks) (facts-pool (st .pool) (M .floor) (a .sound)) in
-      and-left (distinct blocks) (all (λ b. ltb b blockCount) blocks) (and-left (distinct blocks && all (λ b. ltb b blockCount) blocks) (allBelow blockCount (λ b. Bool·beq (free b) (not (member b blocks)))) e)
+      let e = both (soundMonths (M .floor) months) (soundBlocks free blocks) (facts-pool (st .pool) (M .floor) (a .sound)) .1 in
+      both (distinct blocks) (all (λ b. ltb b blockCount) blocks) (both (distinct blocks && all (λ b. ltb b blockCount) blocks) (allBelow blockCount (λ b. Bool·beq (free b) (not (member b blocks)))) e .0) .0

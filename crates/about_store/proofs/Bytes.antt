@@ -14,6 +14,7 @@ use borrow.Author.Tests.{ltb-true, ltb-false, leb-true, leb-false}
 use Rattle.rules.specs.Store.{blockLength, noRate, toByte, rateBytes}
 use Rattle.schedule.specs.Stored.{place, blank}
 use Rattle.schedule.proofs.RateLaws.{bytes-length, bytes-at}
+use Rattle.schedule.proofs.Parts.{getD-in}
 
 pub sets-out : (l : List ℕ) (a : ℕ) (vs : List ℕ) (k d : ℕ) → (k < a) ⊎ (a + length vs ≤ k) → getD (sets l a vs) k d ≡ getD l k d
 sets-out l a [] k d h = refl
@@ -33,11 +34,6 @@ write-there s vs b f c i d n l q = go (ltb c b) refl
     go true e = sets-out s (place b f) vs (place c i) d (inl (omega (arith, ltb-true c b e)))
     go false e = sets-out s (place b f) vs (place c i) d (inr (omega (arith, ltb-false c b e)))
 
-pub getD-any : (l : List ℕ) (i d e : ℕ) → i < length l → getD l i d ≡ getD l i e
-getD-any [] i d e h = absurd (not-suc-le-zero h)
-getD-any (x ∷ l) zero d e h = refl
-getD-any (x ∷ l) (suc i) d e h = getD-any l i d e (le-of-suc-le-suc h)
-
 -- and from block b
 pub write-here : (s vs : List ℕ) (b f i d e : ℕ) → f + length vs ≤ blockLength → b * blockLength + blockLength ≤ length s
     → getD (sets s (place b f) vs) (place b i) d ≡ cond (leb f i && ltb i (f + length vs)) (getD vs (i - f) e) (getD s (place b i) d)
@@ -49,7 +45,7 @@ write-here s vs b f i d e p q = go (leb f i) refl (ltb i (f + length vs)) refl
         let h : f ≤ i = leb-true f i y in
         let k : i < f + length vs = ltb-true i (f + length vs) x in
         let z : place b i ≡ place b f + (i - f) = omega arith in
-        rw z (sets-in s (place b f) vs (i - f) d (omega arith) (omega arith) ∙ getD-any vs (i - f) d e (omega arith))
+        rw z (sets-in s (place b f) vs (i - f) d (omega arith) (omega arith) ∙ getD-in vs (i - f) d e (omega arith))
     go true y false x = sets-out s (place b f) vs (place b i) d (inr (omega (arith, ltb-false i (f + length vs) x)))
     go false y r x = sets-out s (place b f) vs (place b i) d (inl (omega (arith, leb-false f i y)))
 

@@ -1,7 +1,7 @@
 -- Laws of the machine's count of the months that pass a test, and of the length of a list of months. Assumes nothing.
 use mathlib.Core.Path.{_≡_, refl, sym, ap, ap₂, _∙_}
 use mathlib.Core.Logic.{_⊎_, inl, inr, ⊎-elim}
-use mathlib.Core.Bool.{Bool, true, false, _||_, false≢true}
+use mathlib.Core.Bool.{Bool, true, false, _||_, false≢true, or-true, not, _&&_}
 use mathlib.Core.List.{List, [], _∷_, List·Memᴰ, List·Memᴰ·head, List·Memᴰ·tail, List·Memᴰ·cases-cons, List·Memᴰ·not-nil}
 use Prim.Native.Nat.{ℕ, zero, suc, _+_, _≤_, _<_}
 use native.Mathlib.Omega.{arith}
@@ -11,8 +11,9 @@ use lib.ListN.{length}
 use borrow.Author.Tests.{eqb-true, eq-eqb, ne-eqb}
 use Rattle.rules.specs.Machine.{one, countBelow}
 use Rattle.rules.specs.Store.{member}
+use Rattle.laws.proofs.Tests.{isnt, either}
 use Rattle.pool.specs.Held.{Distinct}
-use Rattle.about_store.proofs.Bools.{or-cases, or-true, isnt}
+use Rattle.schedule.proofs.MissingLaws.{count-none}
 
 pub count-same : (k : ℕ) (p q : ℕ → Bool) → ((m : ℕ) → m < k → p m ≡ q m) → countBelow k p ≡ countBelow k q
 unfolding countBelow
@@ -34,11 +35,6 @@ unfolding countBelow
 count-add zero p q r h = refl
 count-add (suc k) p q r h = omega (arith, count-add k p q r h, h k)
 
-pub count-none : (k : ℕ) (p : ℕ → Bool) → ((m : ℕ) → m < k → p m ≡ false) → countBelow k p ≡ 0
-unfolding countBelow
-count-none zero p h = refl
-count-none (suc k) p h = rw (count-none k p (λ m l. h m (omega arith)), h k (omega arith))
-
 -- one number is x
 pub count-one : (k x : ℕ) → x < k → countBelow k (λ m. eqb m x) ≡ 1
 unfolding countBelow
@@ -57,12 +53,21 @@ count-open k x p l e = count-add k (λ m. eqb m x) p (λ m. eqb m x || p m) (λ 
     go m true q = let z : p m ≡ false = ap p (eqb-true m x q) ∙ e in rw z
     go m false q = omega arith
 
+-- where h passes, or x and y do: h, and both of them where h does not
+pub one-more : (x y h : Bool) → one (x && y || h) ≡ one h + one (x && y && not h)
+one-more true true true = refl
+one-more true true false = refl
+one-more true false true = refl
+one-more true false false = refl
+one-more false y true = refl
+one-more false y false = refl
+
 -- ---- lists
 
 pub member-mem : (m : ℕ) (xs : List ℕ) → member m xs ≡ true → List·Memᴰ m xs
 unfolding member
 member-mem m [] e = absurd (false≢true e)
-member-mem m (x ∷ xs) e = ⊎-elim (λ q. List·Memᴰ·head (eqb-true m x q)) (λ q. List·Memᴰ·tail (member-mem m xs q)) (or-cases (eqb m x) (member m xs) e)
+member-mem m (x ∷ xs) e = ⊎-elim (λ q. List·Memᴰ·head (eqb-true m x q)) (λ q. List·Memᴰ·tail (member-mem m xs q)) (either (eqb m x) (member m xs) e)
 
 pub mem-member : (m : ℕ) (xs : List ℕ) → List·Memᴰ m xs → member m xs ≡ true
 unfolding member

@@ -1,23 +1,24 @@
 -- Laws of the machine's list of files: what one file more does to its rates and its held months, and when a slot has no rate.
 -- Assumes nothing.
 use mathlib.Core.Path.{_≡_, refl, sym, _∙_}
-use mathlib.Core.Bool.{Bool, true, false, cond, not, _&&_, _||_, true≢false}
+use mathlib.Core.Bool.{Bool, true, false, cond, not, _&&_, _||_, true≢false, and-false, or-false, or-assoc}
 use mathlib.Core.List.{List, [], _∷_, _++_}
 use mathlib.Core.Option.{Option, none, some}
-use Prim.Native.Nat.{ℕ, zero, suc, _+_, _-_, _≤_, _<_, min, max}
+use Prim.Native.Nat.{ℕ, suc, _+_, _-_, _≤_, _<_, min, max}
 use native.Mathlib.Omega.{arith}
 use lib.Dec.{leb, ltb}
 use lib.ListN.{length, getD}
-use borrow.Author.Tests.{leb-true, ltb-true, ltb-false, lt-ltb, le-ltb, le-leb, lt-leb}
-use Rattle.rules.specs.Digits.{allAtMost}
+use borrow.Author.Tests.{ltb-true, ltb-false, lt-ltb, le-ltb, le-leb, lt-leb}
 use Rattle.rules.specs.Calendar.{firstSlot, slotsOfMonth, monthOfSlot, lastMonth, monthCount}
 use Rattle.rules.specs.Body.{Record, highestRate}
 use Rattle.rules.specs.File.{File, recordsIn, startOf}
 use Rattle.rules.specs.Machine.{Machine, covers, rateIn, orElse, lastRate, rateOf, touches, anyRecord, anyFile, isHeld}
+use Rattle.laws.proofs.Tests.{neither}
+use Rattle.laws.proofs.Bytes.{at-most-at}
 use Rattle.calendar.proofs.Laws.{first-slot-step, first-slot-end, first-slot-monotone, slot-month-is, slot-month-past}
 use Rattle.about_store.specs.Agrees.{rateAt}
 use Rattle.about_store.specs.Run.{RunFrom}
-use Rattle.about_store.proofs.Bools.{and-left, and-right, and-false, or-false, or-left, or-right, or-assoc, ltb-leb, between}
+use Rattle.about_store.proofs.Ranges.{ltb-leb, between}
 
 -- ---- one file more
 
@@ -43,10 +44,10 @@ module _ (m s : ℕ) (from : firstSlot m ≤ s) (until : s < firstSlot (suc m)) 
   in-none : (rs : List Record) → anyRecord m rs ≡ false → rateIn s rs ≡ none
   unfolding anyRecord rateIn
   in-none [] e = refl
-  in-none (r ∷ rs) e = go (covers s r) refl (in-none rs (or-right (touches m r) (anyRecord m rs) e))
+  in-none (r ∷ rs) e = go (covers s r) refl (in-none rs (neither (touches m r) (anyRecord m rs) e .1))
     where
       go : (t : Bool) → covers s r ≡ t → rateIn s rs ≡ none → cond t (some (getD (r .rates) (s - startOf r) 0)) (rateIn s rs) ≡ none
-      go true c q = absurd (true≢false (sym (covers-touches m s r from until c) ∙ or-left (touches m r) (anyRecord m rs) e))
+      go true c q = absurd (true≢false (sym (covers-touches m s r from until c) ∙ neither (touches m r) (anyRecord m rs) e .0))
       go false c q = q
 
   -- a month that no file covers has no rates
@@ -54,7 +55,7 @@ module _ (m s : ℕ) (from : firstSlot m ≤ s) (until : s < firstSlot (suc m)) 
   unfolding anyFile lastRate
   last-none [] o e = refl
   last-none (f ∷ fs) o e =
-      rw (in-none (recordsIn (f .body)) (or-left (anyRecord m (recordsIn (f .body))) (anyFile m fs) e)) (last-none fs o (or-right (anyRecord m (recordsIn (f .body))) (anyFile m fs) e))
+      rw (in-none (recordsIn (f .body)) (neither (anyRecord m (recordsIn (f .body))) (anyFile m fs) e .0)) (last-none fs o (neither (anyRecord m (recordsIn (f .body))) (anyFile m fs) e .1))
 
 -- records that begin after slot s do not cover it
 pub before-none : (s t : ℕ) (rs : List Record) → RunFrom t rs → s < t → rateIn s rs ≡ none
@@ -108,17 +109,11 @@ module _ (M : Machine) (low : M .floor ≤ lastMonth) (m i : ℕ) where
 
 -- ---- rates are at most 100
 
-pub at-most : (most : ℕ) (rs : List ℕ) (j : ℕ) → allAtMost most rs ≡ true → getD rs j 0 ≤ most
-unfolding allAtMost
-at-most most [] j e = omega arith
-at-most most (r ∷ rs) zero e = leb-true r most (and-left (leb r most) (allAtMost most rs) e)
-at-most most (r ∷ rs) (suc j) e = at-most most rs j (and-right (leb r most) (allAtMost most rs) e)
-
 pub in-low : (s t : ℕ) (rs : List Record) → RunFrom t rs → (r : ℕ) → rateIn s rs ≡ some r → r ≤ highestRate
 unfolding rateIn
 in-low s t [] g r e = let z : _≡_ {A = ℕ} 0 1 = cc in absurd (omega arith)
 in-low s t (x ∷ rs) g r e = go (covers s x) (in-low s (t + length (x .rates)) rs (g .2) r) e
   where
     go : (c : Bool) → (rateIn s rs ≡ some r → r ≤ highestRate) → cond c (some (getD (x .rates) (s - startOf x) 0)) (rateIn s rs) ≡ some r → r ≤ highestRate
-    go true rest q = let w : getD (x .rates) (s - startOf x) 0 ≡ r = cc in omega (arith, at-most highestRate (x .rates) (s - startOf x) (g .1 .rates))
+    go true rest q = let w : getD (x .rates) (s - startOf x) 0 ≡ r = cc in omega (arith, at-most-at highestRate (x .rates) (s - startOf x) (g .1 .rates))
     go false rest q = rest q

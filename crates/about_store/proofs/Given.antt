@@ -2,17 +2,18 @@
 -- Assumes nothing.
 use mathlib.Core.Path.{_≡_, refl, sym, ap, _∙_}
 use mathlib.Core.Logic.{_⊎_, inl, inr, _↔_}
-use mathlib.Core.Bool.{Bool, true, false, cond, not, _&&_, _||_, true≢false, false≢true}
+use mathlib.Core.Bool.{Bool, true, false, cond, not, _&&_, false≢true, and-true}
 use mathlib.Core.List.{List, _∷_, map}
 use Prim.Native.Nat.{ℕ, zero, suc, _+_, _-_, _^_, _≤_, _<_}
 use native.Mathlib.Omega.{arith}
-use lib.Dec.{eqb, ltb}
+use lib.Dec.{eqb}
 use lib.ListN.{length, getD, set, length-set}
 use lib.Seq.{getD-set-same, getD-set-other}
-use borrow.Author.Tests.{eqb-true, eqb-false, eq-eqb, ltb-false}
+use borrow.Author.Tests.{eqb-true, eqb-false, eq-eqb}
 use Rattle.rules.specs.Calendar.{monthCount}
 use Rattle.rules.specs.Machine.{countBelow}
 use Rattle.rules.specs.Store.{Held as HeldMonth, member, blockCount}
+use Rattle.laws.proofs.Tests.{same}
 use Rattle.pool.specs.Blocks.{isFree, monthOf, freeCount, findOf, given, freeAfter, releaseOf}
 use Rattle.pool.specs.Held.{InBlock, Held, Sound, monthsBelow, heldMonths, heldBelow}
 use Rattle.pool.specs.declared.Pool.{Pool}
@@ -20,7 +21,6 @@ use Rattle.pool.specs.declared.Found.the-variants.{At, Nothing}
 use Rattle.pool.proofs.BelowLaws.{bit-number, number-lt}
 use Rattle.pool.proofs.Laws.{find-in, free-is, months-held, months-once}
 use Rattle.about_store.specs.Untouched.{Keeps}
-use Rattle.about_store.proofs.Bools.{same}
 use Rattle.about_store.proofs.Counts.{count-same, count-list, member-mem, mem-member}
 
 -- ---- a block given
@@ -29,10 +29,6 @@ free-given : (p : Pool) (m b c : ℕ) → c < blockCount → isFree (given p m b
 free-given p m b c h = bit-number blockCount (λ c. isFree p c && not (eqb c b)) c h
 
 module _ (p : Pool) (m b : ℕ) (long : length (p .months) ≡ blockCount) (l : b < blockCount) where
-  and-not : (x : Bool) → x && true ≡ false → x ≡ false
-  and-not true e = e
-  and-not false e = refl
-
   -- a block that is used afterwards is the one given, or was used before and has the same month
   pub given-cases : (x c : ℕ) → InBlock (given p m b) x c → ((x ≡ m) × (c ≡ b)) ⊎ ((c ≡ b → ⊥) × InBlock p x c)
   given-cases x c i = go (eqb c b) refl
@@ -45,7 +41,7 @@ module _ (p : Pool) (m b : ℕ) (long : length (p .months) ≡ blockCount) (l : 
         eqb-false c b e,
         record {
           below = i .below;
-          used = and-not (isFree p c) (rw e at (sym (free-given p m b c (i .below)) ∙ i .used));
+          used = sym (and-true (isFree p c)) ∙ (rw e at (sym (free-given p m b c (i .below)) ∙ i .used));
           month = sym (getD-set-other (p .months) b c m 0 (eqb-false c b e)) ∙ i .month;
         },
       )
@@ -70,16 +66,6 @@ given-bits p m b = number-lt blockCount (λ c. isFree p c && not (eqb c b))
 -- ---- blocks released
 
 module _ (p : Pool) (floor : ℕ) where
-  pub released-in : (x c : ℕ) → InBlock (releaseOf p floor) x c → InBlock p x c × (floor ≤ x)
-  unfolding releaseOf
-  released-in x c i =
-      let w = or-parts (isFree p c) (ltb (monthOf p c) floor) (sym (bit-number blockCount (freeAfter p floor) c (i .below)) ∙ i .used) in
-      (record { below = i .below; used = w .0; month = i .month }, rw (i .month) at (ltb-false (monthOf p c) floor (w .1)))
-    where
-      or-parts : (x y : Bool) → x || y ≡ false → (x ≡ false) × (y ≡ false)
-      or-parts true y e = absurd (true≢false e)
-      or-parts false y e = (refl, e)
-
   pub released-bits : releaseOf p floor .free < 2 ^ blockCount
   unfolding releaseOf
   released-bits = number-lt blockCount (freeAfter p floor)
@@ -98,7 +84,7 @@ found-not p floor m s e h =
 
 -- ---- the held months as a list, and as a test
 
-months-few : (k : ℕ) (p : Pool) → length (monthsBelow k p) ≤ k
+pub months-few : (k : ℕ) (p : Pool) → length (monthsBelow k p) ≤ k
 unfolding monthsBelow
 months-few zero p = omega arith
 months-few (suc k) p = go (isFree p k) (months-few k p)

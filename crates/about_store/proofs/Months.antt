@@ -1,51 +1,29 @@
 -- Records of whole months (201, 202) follow each other, one month a record. Assumes nothing.
 use mathlib.Core.Path.{_≡_, refl, sym, ap, ap₂, _∙_, subst}
-use mathlib.Core.Bool.{Bool, true, false, _&&_, false≢true}
+use mathlib.Core.Bool.{Bool, true, false}
 use mathlib.Core.List.{List, [], _∷_, _++_}
 use Prim.Native.Nat.{ℕ, suc, _+_, _-_, _*_, _/_, _≤_, _<_, min}
 use native.Mathlib.Omega.{arith}
-use lib.Dec.{leb, ltb, eqb}
+use lib.Dec.{leb}
 use lib.ListN.{length, take, drop, length-take, length-drop, take-append-drop}
-use lib.Seq.{drop-drop, drop-append-le, take-append-le}
-use borrow.Author.Tests.{eqb-true, ltb-true, leb-true, leb-false}
-use Rattle.rules.specs.Digits.{part, allAtMost, valueFrom, value, sameBytes}
-use Rattle.rules.specs.Calendar.{firstDay, daysOfMonth, firstSlot, slotsOfMonth, monthOfSlot, yearIn, monthIn, dayIn, hourIn, minuteIn, secondIn, monthAt, exists, secondsOf, wholeMinute, slotLength, dayLength, slotsOfDay, monthCount, lastMonth, slotCount}
+use lib.Seq.{drop-drop, drop-append-le}
+use borrow.Author.Tests.{leb-true, leb-false}
+use Rattle.rules.specs.Digits.{part, allAtMost, valueFrom, value}
+use Rattle.rules.specs.Calendar.{firstDay, firstSlot, slotsOfMonth, monthOfSlot, dayIn, hourIn, minuteIn, secondIn, monthAt, exists, secondsOf, wholeMinute, slotLength, dayLength, slotsOfDay, monthCount, lastMonth, slotCount}
 use Rattle.rules.specs.Body.{Record, every, highestRate}
 use Rattle.rules.specs.File.{startOf, monthBegins, wholeMonth, monthsFrom}
+use Rattle.laws.proofs.Tests.{both}
+use Rattle.laws.proofs.Bytes.{same-equal, part-front}
+use Rattle.laws.proofs.Facts.{date-facts, month-facts}
 use Rattle.calendar.proofs.Laws.{first-slot-step, first-slot-end, first-slot-monotone, first-slot-rises, slot-month-first}
 use Rattle.calendar.proofs.DateLaws.{exists-below}
 use Rattle.about_store.specs.Run.{RunFrom}
-use Rattle.about_store.proofs.Bools.{and-left, and-right}
-
-same-bytes : (s t : List ℕ) → sameBytes s t ≡ true → s ≡ t
-unfolding sameBytes
-same-bytes [] [] e = refl
-same-bytes [] (y ∷ t) e = absurd (false≢true e)
-same-bytes (x ∷ s) [] e = absurd (false≢true e)
-same-bytes (x ∷ s) (y ∷ t) e =
-    ap₂ {C = List ℕ} _∷_ (eqb-true x y (and-left (eqb x y) (sameBytes s t) e)) (same-bytes s t (and-right (eqb x y) (sameBytes s t) e))
-
--- a date's seconds are below 60
-exists-second : (s : List ℕ) → exists s ≡ true → secondIn s < 60
-unfolding exists
-exists-second s e =
-    let first =
-    leb 2000 (yearIn s)
-    && leb (yearIn s) 2099
-    && leb 1 (monthIn s)
-    && leb (monthIn s) 12
-    && leb 1 (dayIn s)
-    && leb (dayIn s) (daysOfMonth (monthAt s))
-    && ltb (hourIn s) 24
-    && ltb (minuteIn s) 60
-    in
-    ltb-true (secondIn s) 60 (and-right first (ltb (secondIn s) 60) e)
 
 -- ---- 'the start is day 01, 00:00'
 
 module _ (s : List ℕ) (e : monthBegins s ≡ true) where
   first-bytes : part s 6 6 ≡ 0 ∷ 1 ∷ 0 ∷ 0 ∷ 0 ∷ 0 ∷ []
-  first-bytes = same-bytes (part s 6 6) (0 ∷ 1 ∷ 0 ∷ 0 ∷ 0 ∷ 0 ∷ []) e
+  first-bytes = same-equal (part s 6 6) (0 ∷ 1 ∷ 0 ∷ 0 ∷ 0 ∷ 0 ∷ []) e
 
   twelve : 12 ≤ length s
   twelve =
@@ -54,10 +32,7 @@ module _ (s : List ℕ) (e : monthBegins s ≡ true) where
 
   -- a part of the first twelve bytes
   front : (i n : ℕ) → i + n ≤ 12 → part (wholeMinute s) i n ≡ part s i n
-  front i n l =
-      let long = twelve in
-      let rest = length-drop i s in
-      ap (take n) (drop-append-le i s (0 ∷ 0 ∷ []) (omega arith)) ∙ take-append-le n (drop i s) (0 ∷ 0 ∷ []) (omega arith)
+  front i n l = part-front s (0 ∷ 0 ∷ []) i n (omega (arith, twelve))
 
   -- what follows the month
   back : drop 6 (wholeMinute s) ≡ 0 ∷ 1 ∷ 0 ∷ 0 ∷ 0 ∷ 0 ∷ (drop 6 (drop 6 s) ++ 0 ∷ 0 ∷ [])
@@ -87,7 +62,7 @@ module _ (s : List ℕ) (e : monthBegins s ≡ true) where
   unfolding secondsOf
   month-slot m there is =
       let w = wholeMinute s in
-      let sec : secondIn w < 60 = exists-second w there in
+      let sec : secondIn w < 60 = date-facts w there .second in
       let f : firstDay (monthAt w) ≡ firstDay m = ap firstDay (month-same ∙ is) in
       plain (firstDay (monthAt w)) (firstDay m) (dayIn w) (hourIn w) (minuteIn w) (secondIn w) f day-one hour-zero minute-zero sec
     where
@@ -96,26 +71,19 @@ module _ (s : List ℕ) (e : monthBegins s ≡ true) where
 
 -- ---- whole months
 
-pub record MonthFacts (m : ℕ) (r : Record) : Type 0 where
+pub record MonthOf (m : ℕ) (r : Record) : Type 0 where
   pub start : startOf r ≡ firstSlot m
   pub count : length (r .rates) ≡ slotsOfMonth m
   pub few : m < monthCount
 
-pub month-facts : (m : ℕ) (r : Record) → wholeMonth m r ≡ true → MonthFacts m r
-unfolding wholeMonth
-month-facts m r e =
-    let t = exists (wholeMinute (r .start)) in
-    let is = eqb (monthAt (r .start)) m in
-    let one = monthBegins (r .start) in
-    let n = eqb (length (r .rates)) (slotsOfMonth m) in
-    let e₃ = and-left (t && is && one) n e in
-    let e₂ = and-left (t && is) one e₃ in
-    let there = and-left t is e₂ in
-    let at-month = month-slot (r .start) (and-right (t && is) one e₃) m there (eqb-true (monthAt (r .start)) m (and-right t is e₂)) in
+pub month-of : (m : ℕ) (r : Record) → wholeMonth m r ≡ true → MonthOf m r
+month-of m r e =
+    let w = month-facts m r e in
+    let at-month = month-slot (r .start) (w .begins) m (w .date) (w .month) in
     record {
       start = at-month;
-      count = eqb-true (length (r .rates)) (slotsOfMonth m) (and-right (t && is && one) n e);
-      few = below m (omega (arith, exists-below (wholeMinute (r .start)) there)) (leb m lastMonth) refl;
+      count = w .full;
+      few = below m (omega (arith, exists-below (wholeMinute (r .start)) (w .date))) (leb m lastMonth) refl;
     }
   where
     below : (m : ℕ) → firstSlot m < slotCount → (x : Bool) → leb m lastMonth ≡ x → m < monthCount
@@ -127,19 +95,19 @@ pub months-run : (m : ℕ) (rs : List Record) → monthsFrom m rs ≡ true → e
 unfolding monthsFrom every
 months-run m [] e low = tt
 months-run m (r ∷ rs) e low =
-    let w = month-facts m r (and-left (wholeMonth m r) (monthsFrom (suc m) rs) e) in
+    let w = month-of m r (both (wholeMonth m r) (monthsFrom (suc m) rs) e .0) in
     let next = first-slot-step m in
     let end = first-slot-monotone (suc m) monthCount (w .few) in
     let last = first-slot-end in
     let is : monthOfSlot (startOf r) ≡ m = ap monthOfSlot (w .start) ∙ slot-month-first m (w .few) in
     let on : firstSlot m + length (r .rates) ≡ firstSlot (suc m) = omega (arith, w .count) in
-    let rest = months-run (suc m) rs (and-right (wholeMonth m r) (monthsFrom (suc m) rs) e) (and-right (allAtMost highestRate (r .rates)) (every (λ r. allAtMost highestRate (r .rates)) rs) low) in (
+    let rest = months-run (suc m) rs (both (wholeMonth m r) (monthsFrom (suc m) rs) e .1) (both (allAtMost highestRate (r .rates)) (every (λ r. allAtMost highestRate (r .rates)) rs) low .1) in (
       w .start,
       record {
         begins = omega (arith, w .start, first-slot-rises m);
         ends = omega (arith, w .start);
         near = rw is (omega (arith, w .start, first-slot-rises (suc m)));
-        rates = and-left (allAtMost highestRate (r .rates)) (every (λ r. allAtMost highestRate (r .rates)) rs) low;
+        rates = both (allAtMost highestRate (r .rates)) (every (λ r. allAtMost highestRate (r .rates)) rs) low .0;
       },
       subst (λ (s : ℕ). RunFrom s rs) (sym on) rest,
     )

@@ -11,9 +11,10 @@ use lib.Seq.{getD-take, getD-drop}
 use borrow.Author.Tests.{ltb-true, lt-ltb}
 use Rattle.rules.specs.Calendar.{firstSlot, slotsOfMonth}
 use Rattle.rules.specs.Store.{blockLength}
+use Rattle.laws.proofs.Tests.{same, both}
 use Rattle.calendar.proofs.Laws.{days-range, first-slot-step}
 use Rattle.schedule.specs.Stored.{Piece, pieceIn, meets}
-use Rattle.about_store.proofs.Bools.{and-left, and-right, same, between, is-between}
+use Rattle.about_store.proofs.Ranges.{between, is-between}
 use Rattle.about_store.proofs.View.{pieceSays}
 
 -- ---- numbers: the part from slot a up to slot b of a run from slot s up to slot e
@@ -44,8 +45,8 @@ pub run-slot : (k i s n : ℕ) → runCovers k i s n ≡ true → (i < slotsOfMo
 run-slot k i s n e =
     let month = ltb i (slotsOfMonth k) in
     let run = leb s (firstSlot k + i) && ltb (firstSlot k + i) (s + n) in
-    let w = between s (firstSlot k + i) (s + n) (and-right month run e) in
-    (ltb-true i (slotsOfMonth k) (and-left month run e), w .0, w .1)
+    let w = between s (firstSlot k + i) (s + n) (both month run e .1) in
+    (ltb-true i (slotsOfMonth k) (both month run e .0), w .0, w .1)
 
 -- place j of n rates from place a on
 part-at : (rates : List ℕ) (a n j to : ℕ) → j < n → a + j ≡ to → getD (take n (drop a rates)) j 0 ≡ getD rates to 0

@@ -13,13 +13,13 @@ use borrow.Author.Tests.{leb-true, eq-eqb, ne-eqb}
 use Rattle.rules.specs.Calendar.{lastMonth, monthCount}
 use Rattle.rules.specs.Store.{noRate, toByte, rateBytes, blockLength, blockCount}
 use Rattle.rules.specs.Machine.{countBelow}
+use Rattle.laws.proofs.Tests.{both}
 use Rattle.pool.specs.Blocks.{findOf}
 use Rattle.pool.specs.Held.{InBlock}
 use Rattle.pool.specs.declared.Found.{Found}
 use Rattle.pool.specs.declared.Found.the-variants.{At, Nothing}
 use Rattle.pool.proofs.Laws.{find-at}
 use Rattle.schedule.specs.Stored.{Stored, Piece, place, openMonth, layBy, layPiece, putPiece}
-use Rattle.about_store.proofs.Bools.{and-left}
 use Rattle.about_store.proofs.Bytes.{laid-there, laid-here}
 use Rattle.about_store.proofs.View.{View, Shows, openView, layView, pieceCovers, pieceSays, open-shows, not-held}
 
@@ -90,6 +90,6 @@ put-shows st v h q fits few = go (live (v .floor) q) refl few
     go : (t : Bool) → live (v .floor) q ≡ t → countBelow monthCount (putAt t q v .held) ≤ blockCount → Shows (cond t (layPiece q (openMonth (q .month) st)) st) (putAt t q v)
     go true e l =
         let ok = fits e in
-        let from = leb-true (v .floor) (q .month) (and-left (leb (v .floor) (q .month)) (ltb 0 (length (q .rates))) e) in
+        let from = leb-true (v .floor) (q .month) (both (leb (v .floor) (q .month)) (ltb 0 (length (q .rates))) e .0) in
         lay-shows (openMonth (q .month) st) (openView (q .month) v) (open-shows st v h (q .month) from (ok .month) l) q (ok .inside) (rw (eq-eqb (q .month) (q .month) refl))
     go false e l = h

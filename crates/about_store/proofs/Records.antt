@@ -1,7 +1,7 @@
 -- What a file's records, put in order, do to the view of pool and store, and that the machine's list of files says the same.
 -- Assumes nothing.
 use mathlib.Core.Path.{_≡_, refl, sym, _∙_}
-use mathlib.Core.Bool.{Bool, true, false, cond, _&&_, _||_}
+use mathlib.Core.Bool.{Bool, true, false, cond, _&&_, _||_, and-false, or-true}
 use mathlib.Core.List.{List, [], _∷_}
 use mathlib.Core.Option.{Option, none, some}
 use Prim.Native.Nat.{ℕ, _+_, _-_, _≤_}
@@ -16,7 +16,7 @@ use Rattle.rules.specs.Machine.{Machine, covers, rateIn, orElse, lastRate, touc
 use Rattle.schedule.specs.Stored.{Stored, putRun}
 use Rattle.about_store.specs.Agrees.{rateAt}
 use Rattle.about_store.specs.Run.{RunFrom, putRecords}
-use Rattle.about_store.proofs.Bools.{and-false, or-true, between}
+use Rattle.about_store.proofs.Ranges.{between}
 use Rattle.about_store.proofs.Counts.{count-le}
 use Rattle.about_store.proofs.View.{View, Shows}
 use Rattle.about_store.proofs.Runs.{runView, run-shows}

@@ -11,12 +11,13 @@ use lib.ListN.{length}
 use borrow.Author.Tests.{ltb-false, le-ltb}
 use Rattle.rules.specs.Calendar.{firstSlot, slotsOfMonth, monthCount}
 use Rattle.rules.specs.Body.{Record, highestRate}
-use Rattle.rules.specs.Machine.{one, countBelow, anyRecord, rateIn, orElse}
+use Rattle.rules.specs.Machine.{countBelow, anyRecord, rateIn, orElse}
+use Rattle.laws.proofs.Tests.{same, isnt, either}
 use Rattle.pool.specs.Blocks.{findOf}
 use Rattle.schedule.specs.Stored.{Stored, meets, isNothing, missing}
 use Rattle.about_store.specs.Run.{RunFrom, runStart, runLength}
-use Rattle.about_store.proofs.Bools.{or-cases, same, isnt, Overlap, meet-facts, facts-meet}
-use Rattle.about_store.proofs.Counts.{count-same, count-add}
+use Rattle.about_store.proofs.Ranges.{Overlap, meet-facts, facts-meet}
+use Rattle.about_store.proofs.Counts.{count-same, count-add, one-more}
 use Rattle.about_store.proofs.View.{View, Shows}
 use Rattle.about_store.proofs.Shown.{Plain, nothing-view}
 use Rattle.about_store.proofs.Files.{in-low}
@@ -33,7 +34,7 @@ join s n k a b = same to from
         ⊎-elim
         (λ q. let o = meet-facts s a (s + n) b q in facts-meet s a (s + (n + k)) b (record { xz = omega arith; xw = o .xw; yz = omega arith; yw = o .yw }))
         (λ q. let o = meet-facts (s + n) a (s + n + k) b q in facts-meet s a (s + (n + k)) b (record { xz = omega arith; xw = omega arith; yz = omega arith; yw = o .yw }))
-        (or-cases (ltb (max s a) (min (s + n) b)) (ltb (max (s + n) a) (min (s + n + k) b)) e)
+        (either (ltb (max s a) (min (s + n) b)) (ltb (max (s + n) a) (min (s + n + k) b)) e)
 
     from : ltb (max s a) (min (s + (n + k)) b) ≡ true → ltb (max s a) (min (s + n) b) || ltb (max (s + n) a) (min (s + n + k) b) ≡ true
     from e = go (meet-facts s a (s + (n + k)) b e) (ltb (max s a) (min (s + n) b)) refl
@@ -89,12 +90,4 @@ module _ (v : View) (rs : List Record) (run : RunFrom (runStart rs) rs) where
   unfolding lacking
   held-more =
       count-add monthCount (v .held) (λ m. leb (v .floor) m && meets m (runStart rs) (runLength rs) && not (v .held m)) (recordsView rs v .held)
-      (λ m. rw (records-held rs v m, any-run m (runStart rs) rs run) (table (leb (v .floor) m) (meets m (runStart rs) (runLength rs)) (v .held m)))
-    where
-      table : (x y h : Bool) → one (x && y || h) ≡ one h + one (x && y && not h)
-      table true true true = refl
-      table true true false = refl
-      table true false true = refl
-      table true false false = refl
-      table false y true = refl
-      table false y false = refl
+      (λ m. rw (records-held rs v m, any-run m (runStart rs) rs run) (one-more (leb (v .floor) m) (meets m (runStart rs) (runLength rs)) (v .held m)))

@@ -1,7 +1,7 @@
 -- What a put run of rates does to the view of pool and store. Assumes nothing.
 use mathlib.Core.Path.{_≡_, refl, sym, _∙_, subst}
 use mathlib.Core.Logic.{_≢_}
-use mathlib.Core.Bool.{Bool, true, false, cond, _&&_, _||_, true≢false}
+use mathlib.Core.Bool.{Bool, true, false, cond, _&&_, _||_, true≢false, and-false, or-true, and-true}
 use mathlib.Core.List.{List}
 use mathlib.Core.Option.{Option}
 use Prim.Native.Nat.{ℕ, suc, _+_, _-_, _≤_, _<_, min, max}
@@ -13,9 +13,10 @@ use borrow.Author.Tests.{ltb-true, ltb-false, lt-ltb, le-leb, leb-true, leb-fals
 use Rattle.rules.specs.Calendar.{firstSlot, monthOfSlot, slotCount, lastMonth, monthCount}
 use Rattle.rules.specs.Store.{storeLength, blockCount}
 use Rattle.rules.specs.Machine.{countBelow}
+use Rattle.laws.proofs.Tests.{isnt, both}
 use Rattle.calendar.proofs.Laws.{first-slot-step, first-slot-end, first-slot-monotone, slot-month-from}
 use Rattle.schedule.specs.Stored.{Stored, Piece, pieceIn, putPiece, meets, canPut, putRun}
-use Rattle.about_store.proofs.Bools.{and-right, and-false, or-true, isnt, Overlap, meet-facts}
+use Rattle.about_store.proofs.Ranges.{Overlap, meet-facts}
 use Rattle.about_store.proofs.Counts.{count-le}
 use Rattle.about_store.proofs.View.{View, Shows, pieceCovers, pieceSays}
 use Rattle.about_store.proofs.Put.{live, putAt, putView, Fits, put-shows}
@@ -43,10 +44,6 @@ module _ (floor k s : ℕ) (rates : List ℕ) where
     where
       go : (t : Bool) → eqb x k ≡ t → (leb floor k && meets k s (length rates) && t) ≡ (t && (leb floor x && meets x s (length rates)))
       go true e = rw (eqb-true x k e) (and-true (leb floor k && meets k s (length rates)))
-        where
-          and-true : (b : Bool) → b && true ≡ b
-          and-true true = refl
-          and-true false = refl
       go false e = and-false (leb floor k && meets k s (length rates))
 
   -- a slot that is covered lies in a month that is met
@@ -137,7 +134,7 @@ module _ (s : ℕ) (rates : List ℕ) (begins : s < slotCount) (ends : s + lengt
     -- each piece that is not passed over fits
     piece-fits : (k : ℕ) → live (v .floor) (pieceIn k s rates) ≡ true → Fits (pieceIn k s rates)
     piece-fits k e =
-        let t = and-right (leb (v .floor) k) (meets k s (length rates)) (sym (piece-live (v .floor) k s rates) ∙ e) in
+        let t = both (leb (v .floor) k) (meets k s (length rates)) (sym (piece-live (v .floor) k s rates) ∙ e) .1 in
         let o = meet-facts s (firstSlot k) (s + length rates) (firstSlot (suc k)) t in
         record {
           month = rw (piece-month k s rates) (go k (o .yz) (leb k lastMonth) refl);

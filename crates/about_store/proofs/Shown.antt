@@ -14,15 +14,15 @@ use Rattle.rules.specs.Calendar.{firstSlot, slotsOfMonth, monthOfSlot, slotCoun
 use Rattle.rules.specs.Body.{highestRate}
 use Rattle.rules.specs.Store.{storeLength, blockOf, noRate, toByte, fromByte, all, soundBlock, soundStore, blockCount, blockLength, lawfulByte}
 use Rattle.rules.specs.Machine.{countBelow}
+use Rattle.laws.proofs.Tests.{both}
 use Rattle.calendar.proofs.Laws.{days-range, first-slot-step, slot-month-from, slot-month-until}
 use Rattle.pool.specs.Blocks.{isFree, monthOf, freeCount, findOf, releaseOf}
 use Rattle.pool.specs.Held.{InBlock, Held, heldBelow, heldOf}
 use Rattle.pool.specs.declared.Found.{Found}
 use Rattle.pool.specs.declared.Found.the-variants.{At, Nothing}
-use Rattle.pool.proofs.Laws.{find-at, released-held, released-sound}
+use Rattle.pool.proofs.Laws.{find-at, released-held, released-sound, released-in}
 use Rattle.schedule.specs.Stored.{Stored, place, rateFound, storedRate, isNothing}
-use Rattle.about_store.proofs.Bools.{and-left, and-right}
-use Rattle.about_store.proofs.Given.{released-in, released-bits, released-months}
+use Rattle.about_store.proofs.Given.{released-bits, released-months}
 use Rattle.about_store.proofs.View.{View, Shows, count-view, not-held}
 
 -- rates are 0 to 100, and a month has none past its end
@@ -170,7 +170,7 @@ module _ (f : ℕ) (v : View) where
     sound = released-sound (st .pool) f (v .floor) (h .sound);
     held = λ m. (
       λ k. let w = released-held (st .pool) f m .0 k in rw (le-leb f m (w .1)) (h .held m .0 (w .0)),
-      λ e. released-held (st .pool) f m .1 (h .held m .1 (and-right (leb f m) (v .held m) e), leb-true f m (and-left (leb f m) (v .held m) e)),
+      λ e. released-held (st .pool) f m .1 (h .held m .1 (both (leb f m) (v .held m) e .1), leb-true f m (both (leb f m) (v .held m) e .0)),
     );
     bytes = λ m b i k l.
         let w = released-in (st .pool) f m b k in

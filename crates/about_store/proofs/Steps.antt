@@ -1,7 +1,7 @@
 -- Pool and store go on agreeing with the machine: when they are fresh, when blocks are released, and when a file is put.
 -- Assumes nothing.
 use mathlib.Core.Path.{_≡_, refl, sym, ap, _∙_, subst}
-use mathlib.Core.Bool.{Bool, true, false, cond, _&&_, true≢false, false≢true}
+use mathlib.Core.Bool.{Bool, true, false, cond, _&&_, true≢false, false≢true, and-false}
 use mathlib.Core.List.{[], _∷_, _++_}
 use mathlib.Core.Option.{Option, none, some}
 use Prim.Native.Nat.{ℕ, _+_, _≤_, _<_}
@@ -21,7 +21,6 @@ use Rattle.schedule.specs.Stored.{Stored}
 use Rattle.about_store.specs.Agrees.{rateAt, Agrees}
 use Rattle.about_store.specs.Run.{GoodFile, runStart, putRecords}
 use Rattle.about_store.specs.Laws.{FreshAgrees, ReleaseAgrees, SameAgrees, PutAgrees}
-use Rattle.about_store.proofs.Bools.{and-false}
 use Rattle.about_store.proofs.View.{View, Shows}
 use Rattle.about_store.proofs.Shown.{Plain, releaseView, release-shows}
 use Rattle.about_store.proofs.Files.{rate-at, rate-above, rate-none, last-more, in-low}

@@ -17,11 +17,11 @@ use Rattle.rules.specs.Table.{need}
 use Rattle.rules.specs.declared.Cause.{Cause}
 use Rattle.rules.specs.declared.Format.{Format}
 use Rattle.rules.specs.declared.Format.the-variants.{F201, F202, F203, F301}
+use Rattle.laws.proofs.Tests.{both}
 use Rattle.calendar.proofs.Laws.{days-range, first-slot-step, slot-month-until}
 use Rattle.calendar.proofs.DateLaws.{start-below}
 use Rattle.about_store.specs.Run.{GoodRecord, RunFrom, runStart, GoodFile}
 use Rattle.about_store.specs.Laws.{TakenGood}
-use Rattle.about_store.proofs.Bools.{and-left, and-right}
 use Rattle.about_store.proofs.Months.{months-run}
 
 -- a run, from its own first slot on
@@ -41,7 +41,7 @@ start-is s k e = go (digits 12 s && exists (wholeMinute s) && halfHour s) (slotO
 
 update-good : (r : Record) → updateDates r ≡ true → length (r .rates) ≤ 336 → allAtMost highestRate (r .rates) ≡ true → GoodRecord r
 unfolding updateDates
-update-good r e few low = go (startSlot (r .start)) refl (and-left (inTime (length (r .rates)) (startSlot (r .start))) (exists (r .next)) e)
+update-good r e few low = go (startSlot (r .start)) refl (both (inTime (length (r .rates)) (startSlot (r .start))) (exists (r .next)) e .0)
   where
     go : (o : Option ℕ) → startSlot (r .start) ≡ o → inTime (length (r .rates)) o ≡ true → GoodRecord r
     go none q t = absurd (false≢true t)
@@ -70,7 +70,7 @@ short-record s e =
     let most = leb (ratesOf s) 336 in
     let size = leb (sizeOf F203 s) (length s) in
     let tail = allDigits (part s (53 + ratesOf s) (tailDigits F203)) in
-    let few = leb-true (ratesOf s) 336 (and-right a most (and-left (a && most) size (and-left (a && most && size) tail e))) in
+    let few = leb-true (ratesOf s) 336 (both a most (both (a && most) size (both (a && most && size) tail e .0) .0) .1) in
     omega (arith, length-take (ratesOf s) (drop 53 s))
 
 one-record : (s : List ℕ) (rs : List Record) → parseRecords F203 1 s ≡ some rs → OneRecord rs
@@ -108,7 +108,7 @@ schedule-run n body rs parsed dates low not-301 = go (n .format) parsed dates no
         rw (one .only) (refl, update-good r (first-of updateDates r d₁) (one .few) (first-of (λ r. allAtMost highestRate (r .rates)) r l₁), tt)
       where
         first-of : (p : Record → Bool) (r : Record) → every p (r ∷ []) ≡ true → p r ≡ true
-        first-of p r e = unfold every in and-left (p r) true e
+        first-of p r e = unfold every in both (p r) true e .0
 
     go : (x : Format) → parseBody x body ≡ some (schedule rs) → recordDates n x rs ≡ true → not (not (isSchedule x)) ≡ true → RunFrom (runStart rs) rs
     go F201 p d s = own-start (firstSlot (firstMonth rs)) rs (months-run (firstMonth rs) rs d low)

@@ -1,7 +1,7 @@
 -- A put changes no byte but in the blocks of months from floor on that it covers, and no held month's block. Assumes nothing.
 use mathlib.Core.Path.{_≡_, refl, sym, _∙_, subst}
 use mathlib.Core.Logic.{_⊎_, ⊎-elim}
-use mathlib.Core.Bool.{Bool, true, false, cond}
+use mathlib.Core.Bool.{Bool, true, false, cond, or-true}
 use mathlib.Core.List.{[], _∷_}
 use Prim.Native.Nat.{ℕ, suc, _+_, _≤_, _<_}
 use native.Mathlib.Omega.{arith}
@@ -14,6 +14,7 @@ use Rattle.rules.specs.Calendar.{monthOfSlot}
 use Rattle.rules.specs.Store.{noRate, rateBytes, blockCount, blockLength}
 use Rattle.rules.specs.File.{startOf}
 use Rattle.rules.specs.Machine.{touches, anyRecord}
+use Rattle.laws.proofs.Tests.{both}
 use Rattle.pool.specs.Blocks.{isFree, freeCount, findOf, given}
 use Rattle.pool.specs.Held.{InBlock}
 use Rattle.pool.specs.declared.Pool.{Pool}
@@ -26,7 +27,6 @@ use Rattle.schedule.specs.Stored.{Stored, Piece, place, blank, opened, openBy, 
 use Rattle.about_store.specs.Run.{putRecords}
 use Rattle.about_store.specs.Untouched.{Keeps, Untouched}
 use Rattle.about_store.specs.Laws.{RunUntouched, RecordsUntouched}
-use Rattle.about_store.proofs.Bools.{and-left, and-right, or-true}
 use Rattle.about_store.proofs.Bytes.{write-there, laid-there, length-blank}
 use Rattle.about_store.proofs.Given.{given-new, given-keeps}
 use Rattle.about_store.proofs.Put.{live}
@@ -127,7 +127,7 @@ run-leaves floor s rates st long = go (canPut s rates st)
     met : (k : ℕ) → live floor (pieceIn k s rates) ≡ true → (floor ≤ k) × (meets k s (length rates) ≡ true)
     met k e =
         let t = sym (piece-live floor k s rates) ∙ e in
-        (leb-true floor k (and-left (leb floor k) (meets k s (length rates)) t), and-right (leb floor k) (meets k s (length rates)) t)
+        (leb-true floor k (both (leb floor k) (meets k s (length rates)) t .0), both (leb floor k) (meets k s (length rates)) t .1)
 
     part : (k : ℕ) (u : Stored) → length (u .pool .months) ≡ blockCount → Leaves (live floor (pieceIn k s rates)) k u (putPiece floor (pieceIn k s rates) u)
     part k u e =

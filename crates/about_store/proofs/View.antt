@@ -13,6 +13,7 @@ use borrow.Author.Tests.{eqb-true, eqb-false}
 use Rattle.rules.specs.Calendar.{lastMonth, monthCount}
 use Rattle.rules.specs.Store.{storeLength, noRate, toByte, blockCount, blockLength}
 use Rattle.rules.specs.Machine.{countBelow}
+use Rattle.laws.proofs.Tests.{isnt, neither, either}
 use Rattle.pool.specs.Blocks.{isFree, freeCount, findOf, given}
 use Rattle.pool.specs.Held.{InBlock, Held, Sound}
 use Rattle.pool.specs.declared.Found.{Found}
@@ -21,7 +22,6 @@ use Rattle.pool.specs.declared.Place.the-variants.{In}
 use Rattle.pool.specs.declared.Taken.{Taken}
 use Rattle.pool.proofs.Laws.{find-at, take-in, given-held, given-sound}
 use Rattle.schedule.specs.Stored.{Stored, Piece, place, blank, opened, openBy, openMonth}
-use Rattle.about_store.proofs.Bools.{or-cases, or-right, isnt}
 use Rattle.about_store.proofs.Counts.{count-open}
 use Rattle.about_store.proofs.Bytes.{write-there, fill-here, length-blank}
 use Rattle.about_store.proofs.Given.{given-cases, given-bits, found-not, free-held}
@@ -87,17 +87,17 @@ module _ (st : Stored) (v : View) (h : Shows st v) where
       sound = given-sound (st .pool) m b (h .months) l free (v .floor) (h .sound) new from until;
       held = λ x. (to x, from′ x);
       bytes = λ x c i k j. at-byte x c i j (given-cases (st .pool) m b (h .months) l x c k);
-      silent = λ x i e. h .silent x i (or-right (eqb x m) (v .held x) e);
+      silent = λ x i e. h .silent x i (neither (eqb x m) (v .held x) e .1);
     }
       where
         new : Held (st .pool) m → ⊥
         new w = true≢false (sym (h .held m .0 w) ∙ n)
 
-        either : (x : ℕ) → Held (given (st .pool) m b) x ↔ ((x ≡ m) ⊎ Held (st .pool) x)
-        either x = given-held (st .pool) m b (h .months) l free x
+        either-way : (x : ℕ) → Held (given (st .pool) m b) x ↔ ((x ≡ m) ⊎ Held (st .pool) x)
+        either-way x = given-held (st .pool) m b (h .months) l free x
 
         to : (x : ℕ) → Held (given (st .pool) m b) x → eqb x m || v .held x ≡ true
-        to x w = go (either x .0 w) (eqb x m) refl
+        to x w = go (either-way x .0 w) (eqb x m) refl
           where
             go : (x ≡ m) ⊎ Held (st .pool) x → (t : Bool) → eqb x m ≡ t → t || v .held x ≡ true
             go s true e = refl
@@ -105,7 +105,7 @@ module _ (st : Stored) (v : View) (h : Shows st v) where
             go (inr s) false e = h .held x .0 s
 
         from′ : (x : ℕ) → eqb x m || v .held x ≡ true → Held (given (st .pool) m b) x
-        from′ x e = either x .1 (⊎-elim (λ q. inl (eqb-true x m q)) (λ q. inr (h .held x .1 q)) (or-cases (eqb x m) (v .held x) e))
+        from′ x e = either-way x .1 (⊎-elim (λ q. inl (eqb-true x m q)) (λ q. inr (h .held x .1 q)) (either (eqb x m) (v .held x) e))
 
         at-byte : (x c i : ℕ) → i < blockLength → ((x ≡ m) × (c ≡ b)) ⊎ ((c ≡ b → ⊥) × InBlock (st .pool) x c)
             → getD (opened (given (st .pool) m b) (In b) (st .store) .store) (place c i) noRate ≡ toByte (v .says x i)

@@ -28,9 +28,13 @@ body rate =
 three-rates : readingOf (withBody (nameOf F203 0 plant) (parseBody F203 (body 28)))
     ≡ Read
     (record { format = F203; segment = 0; records = 1; rates = 3; start = 459955; flag = 2; «next_access» = 827926200; result = 0 })
-unfolding readingOf summaryOf stages datesHold ratesHold checksumsHold plantsHold updateDates sum checksumOf totalRates ratesOf sizeOf recordShape recordAt parseRecords counted parseBody every daysOfMonth firstDay exists secondsOf startSlot decimal allAtMost valueFrom sameBytes plant body
+unfolding readingOf summaryOf stages datesHold ratesHold checksumsHold plantsHold updateDates sum checksumOf totalRates
+    ratesOf sizeOf recordShape recordAt parseRecords counted parseBody every daysOfMonth firstDay exists secondsOf startSlot
+    decimal allAtMost valueFrom sameBytes plant body
 three-rates = refl
 
 too-much : readingOf (withBody (nameOf F203 0 plant) (parseBody F203 (body 101))) ≡ Refused Cause.Rate
-unfolding readingOf summaryOf stages datesHold ratesHold checksumsHold plantsHold updateDates sum checksumOf totalRates ratesOf sizeOf recordShape recordAt parseRecords counted parseBody every daysOfMonth firstDay exists secondsOf startSlot decimal allAtMost valueFrom sameBytes plant body
+unfolding readingOf summaryOf stages datesHold ratesHold checksumsHold plantsHold updateDates sum checksumOf totalRates
+    ratesOf sizeOf recordShape recordAt parseRecords counted parseBody every daysOfMonth firstDay exists secondsOf startSlot
+    decimal allAtMost valueFrom sameBytes plant body
 too-much = refl

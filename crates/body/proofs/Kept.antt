@@ -24,12 +24,14 @@ use Rattle.body.specs.Records.{orZero, accessAt}
 use Rattle.rules.specs.Reading.{firstStart, accessOf, summaryOf}
 use Rattle.body.specs.Reading.{nameOf, scheduleFile}
 use Rattle.rules.specs.declared.Summary.{Summary}
-use Rattle.digits.proofs.Parts.{both, part-to}
+use Rattle.laws.proofs.Tests.{both}
+use Rattle.laws.proofs.Facts.{month-facts}
+use Rattle.digits.proofs.Parts.{part-to}
 use Rattle.calendar.proofs.Begins.{begins-half}
 use Rattle.layout.proofs.Starts.{is-start, start-some, moment-some}
 use Rattle.form.proofs.Walk.{count-positive, count-bound, whole-start, records-step}
 use Rattle.form.proofs.Standing.{start-digits, records-count, rates-total}
-use Rattle.body.proofs.Starts.{segment-value, next-digits, month-facts, or-at, or-missing}
+use Rattle.body.proofs.Starts.{segment-value, next-digits, or-at, or-missing}
 
 -- ---- flag, start and next access
 
@@ -53,7 +55,7 @@ every-first p rs {r} {others} e h = both (p r) (every p others) (rw e at h) .0
 month-start : (f : Format) (s : List ℕ) (m : ℕ) → wholeMonth m (recordAt f s) ≡ true
     → (exists (wholeMinute (part s 36 12)) ≡ true) × (halfHour (part s 36 12) ≡ true)
 unfolding recordAt
-month-start f s m h = let g = month-facts m (recordAt f s) h in (g .there, begins-half (part s 36 12) (g .begins))
+month-start f s m h = let g = month-facts m (recordAt f s) h in (g .date, begins-half (part s 36 12) (g .begins))
 
 update-start : (s : List ℕ) → updateDates (recordAt F203 s) ≡ true
     → (exists (wholeMinute (part s 36 12)) ≡ true) × (halfHour (part s 36 12) ≡ true)

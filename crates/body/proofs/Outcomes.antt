@@ -24,9 +24,9 @@ use Rattle.body.specs.Reading.{nameOf, scheduleFile}
 use Rattle.rules.specs.declared.Summary.{Summary}
 use Rattle.rules.specs.declared.Reading.{Reading}
 use Rattle.rules.specs.declared.Reading.the-variants.{Read, Refused}
+use Rattle.laws.proofs.Tests.{both}
 use Rattle.body.specs.declared.stages.Stage.the-variants.{Rates, Checksums, Plants}
 use Rattle.digits.proofs.Scan.{part-rest}
-use Rattle.digits.proofs.Parts.{both}
 use Rattle.body.proofs.Starts.{segment-value}
 
 -- the answer of the stages 10 to 13, each of which passed or did not

@@ -9,20 +9,20 @@ use native.Mathlib.Numerals.{add-one}
 use native.Mathlib.Omega.{arith}
 use lib.Dec.{eqb, lit≤}
 use lib.ListN.{length, take, drop}
-use borrow.Author.Tests.{eqb-true}
 use Rattle.rules.specs.Digits.{part, digits, valueFrom, value, decimal}
 use Rattle.rules.specs.Calendar.{slotsOfMonth, monthAt, exists, wholeMinute}
 use Rattle.rules.specs.Name.{segmentMonth}
-use Rattle.rules.specs.Body.{Record, countOf, ratesOf, sizeOf, recordAt, every}
+use Rattle.rules.specs.Body.{countOf, ratesOf, sizeOf, recordAt, every}
 use Rattle.rules.specs.File.{monthBegins, wholeMonth, monthsFrom, updateDates, recordDates}
 use Rattle.rules.specs.declared.Format.{Format}
 use Rattle.rules.specs.declared.Format.the-variants.{F201, F202, F203}
+use Rattle.laws.proofs.Bytes.{part-length}
 use Rattle.calendar.specs.Moments.{momentOf, monthBegun}
 use Rattle.calendar.specs.declared.dates.Moment.the-variants.{At, Missing}
 use Rattle.calendar.specs.declared.dates.Begun.the-variants.{Nothing}
 use Rattle.calendar.proofs.DateLaws.{missing-none, at-some}
 use Rattle.calendar.proofs.Begins.{begun-none}
-use Rattle.digits.proofs.Parts.{both, part-length, part-to, at-most-part}
+use Rattle.digits.proofs.Parts.{part-to, at-most-part}
 use Rattle.layout.specs.Dates.{monthHolds, updateHolds}
 use Rattle.form.specs.Walk.{shaped, recordsFrom, Whole}
 use Rattle.form.proofs.Walk.{count-positive, whole-start, records-end, records-step}
@@ -74,21 +74,6 @@ module _ (s : List ℕ) (w : Whole F203 s) (n : ℕ) (n≡ : n ≡ ratesOf s) wh
       → b ≡ updateDates (recordAt F203 s)
   unfolding updateHolds updateDates recordAt
   update-holds e = e ∙ rw (part-to s (53 + n + 1 + 2) 14, next-digits, n≡, rates-full F203 s w) refl
-
--- what `wholeMonth` says, fact by fact
-pub record MonthFacts (m : ℕ) (r : Record) : Type 0 where
-  pub there : exists (wholeMinute (r .start)) ≡ true
-  pub month : monthAt (r .start) ≡ m
-  pub begins : monthBegins (r .start) ≡ true
-  pub full : length (r .rates) ≡ slotsOfMonth m
-
-pub month-facts : (m : ℕ) (r : Record) → wholeMonth m r ≡ true → MonthFacts m r
-unfolding wholeMonth
-month-facts m r e =
-    let e₃ = both _ _ e in
-    let e₂ = both _ _ (e₃ .0) in
-    let e₁ = both _ _ (e₂ .0) in
-    record { there = e₁ .0; month = eqb-true _ _ (e₁ .1); begins = e₂ .1; full = eqb-true _ _ (e₃ .1) }
 
 -- ---- months of the records that are left, from m on
 

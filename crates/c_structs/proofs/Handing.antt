@@ -6,10 +6,10 @@ use lib.Dec.{eqb}
 use borrow.Author.Tests.{eqb-true}
 use Rattle.rules.specs.Store.{soundClock}
 use Rattle.rules.specs.declared.Answer.{Answer}
+use Rattle.laws.proofs.Tests.{both}
 use Rattle.plant.specs.Plant.{keptOf, isKept, settingsOf}
 use Rattle.plant.specs.declared.Settings.{Settings as Kept}
 use Rattle.plant.proofs.Laws.{valid-facts, in-range-kept, narrowed-kept, kept-whole}
-use Rattle.pool.proofs.BelowLaws.{and-true}
 use Rattle.unit.specs.Values.{clockOf, isSound}
 use Rattle.unit.specs.declared.Unit.{Unit}
 use Rattle.unit.specs.declared.Done.{Done}
@@ -42,7 +42,7 @@ held-by-unit u k = rw (clock-held (u .clock), k)
 
 held-parts : (h : HeldUnit) → isHeldUnit h ≡ true → (isHeldClock (h .«clock_set») (h .clock) ≡ true) × (isKept (settingsIn (h .settings)) ≡ true)
 unfolding isHeldUnit
-held-parts h e = and-true (isHeldClock (h .«clock_set») (h .clock)) (isKept (settingsIn (h .settings))) e
+held-parts h e = both (isHeldClock (h .«clock_set») (h .clock)) (isKept (settingsIn (h .settings))) e
 
 module _ (m s : ℕ) where
   abbrev Back : Type 0
@@ -52,7 +52,7 @@ module _ (m s : ℕ) where
   unfolding clockFrom isHeldClock
   fields-by true b e k h = rw e (sym (eqb-true m 1 e), refl)
   fields-by false true e k h =
-      let zeros = and-true (eqb m 0) (eqb s 0) k in
+      let zeros = both (eqb m 0) (eqb s 0) k in
       rw (e, k) (sym (eqb-true m 0 (zeros .0)), sym (eqb-true s 0 (zeros .1)))
   fields-by false false e k h = absurd (false≢true (rw (e, k) at h))
 

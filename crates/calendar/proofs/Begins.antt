@@ -12,7 +12,9 @@ use borrow.Author.Tests.{le-leb, eq-eqb, ne-eqb}
 use Rattle.rules.specs.Digits.{part, allDigits, digits, valueFrom, value}
 use Rattle.rules.specs.Calendar.{monthCount, daysOfMonth, yearIn, monthIn, dayIn, hourIn, minuteIn, secondIn, monthAt, exists, wholeMinute, halfHour}
 use Rattle.rules.specs.File.{monthBegins}
-use Rattle.digits.proofs.Parts.{both, part-part, part-front, digits-length, same-equal}
+use Rattle.laws.proofs.Tests.{both}
+use Rattle.laws.proofs.Bytes.{same-equal, part-front}
+use Rattle.digits.proofs.Parts.{part-part, digits-length}
 use Rattle.calendar.specs.Moments.{begunOf, monthBegun, monthExists}
 use Rattle.calendar.specs.declared.dates.Begun.the-variants.{Month, Nothing}
 use Rattle.calendar.proofs.Laws.{days-range}

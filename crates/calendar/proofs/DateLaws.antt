@@ -11,9 +11,9 @@ use lib.ListN.{length, length-append}
 use borrow.Author.Tests.{ltb-true, leb-true, eq-eqb, ne-eqb}
 use Rattle.rules.specs.Digits.{part, value, allAtMost, allDigits, digits}
 use Rattle.rules.specs.Calendar.{firstDay, yearIn, monthIn, dayIn, hourIn, minuteIn, secondIn, monthAt, exists, secondsOf, moment, wholeMinute, halfHour, startSlot, slotOf, monthCount, dayCount, endOfTime, slotLength, slotCount}
+use Rattle.laws.proofs.Tests.{both}
 use Rattle.calendar.specs.Moments.{momentOf, monthExists, dayExists, timeExists, Dated, secondAt}
 use Rattle.calendar.specs.declared.dates.Moment.the-variants.{At, Missing}
-use Rattle.digits.proofs.Parts.{both}
 use Rattle.calendar.proofs.Laws.{first-day-step, first-day-monotone, first-day-end}
 use Rattle.calendar.proofs.Scan.{four-is}
 
@@ -22,7 +22,7 @@ cond-some : (b : Bool) (x t : ℕ) → cond b (some x) none ≡ some t → (b �
 cond-some true x t e = (refl, (cc))
 cond-some false x t e = let z : _≡_ {A = ℕ} 0 1 = cc in absurd (omega arith)
 
-cond-none : (b : Bool) (x : ℕ) → cond b (some x) none ≡ none → b ≡ false
+pub cond-none : (b : Bool) (x : ℕ) → cond b (some x) none ≡ none → b ≡ false
 cond-none true x e = let z : _≡_ {A = ℕ} 0 1 = cc in absurd (omega arith)
 cond-none false x e = refl
 

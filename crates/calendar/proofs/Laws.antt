@@ -8,8 +8,8 @@ use native.Mathlib.Nat.{add-suc, add-zero, zero-add}
 use lib.Dec.{leb, ltb}
 use borrow.Author.Tests.{le-ltb, ltb-true, ltb-false, leb-true, leb-false}
 use Rattle.rules.specs.Calendar.{daysOfMonth, slotsOfMonth, firstDay, firstSlot, monthFrom, monthOfDay, monthOfSlot, slotOf, monthOf, slotsOfDay, monthCount, dayCount, slotCount, dayLength, slotLength}
+use Rattle.laws.proofs.Tests.{both}
 use Rattle.calendar.specs.Cycle.{every, Within}
-use Rattle.digits.proofs.Parts.{both}
 use Rattle.calendar.proofs.Tests.{every-at}
 
 -- ---- four years: 48 months, 1,461 days

@@ -10,7 +10,7 @@ use lib.ListN.{length, getD, set, take, drop, replicate, drop-of-length-le}
 use lib.Seq.{take-all, paste-suc}
 use Rattle.rules.specs.Digits.{part, valueFrom, value}
 use Rattle.rules.specs.Calendar.{wholeMinute}
-use Rattle.digits.proofs.Scan.{at-next}
+use Rattle.laws.proofs.Bytes.{at-next}
 
 module _ (s : List ℕ) (i : ℕ) where
   -- no digit, and one

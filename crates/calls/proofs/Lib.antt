@@ -1,1 +1,1 @@
-pub mod StepLaws
+pub mod StepLaws  -- what `step` returns is what the call's own method returns

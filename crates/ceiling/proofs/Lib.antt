@@ -1,2 +1,2 @@
 -- The laws of this crate; beside them stands a folder for each function.
-pub mod Laws
+pub mod Laws  -- what a slot's ceiling says of its rate

@@ -2,19 +2,16 @@
 -- Assumes nothing.
 use Prim.Native.Nat.{ℕ, zero, suc, _+_, _-_, _≤_}
 use mathlib.Core.Path.{_≡_, _∙_, refl, sym, ap}
-use mathlib.Core.Bool.{Bool, true, false, _&&_, false≢true}
-use mathlib.Core.List.{List, [], _∷_, _++_}
+use mathlib.Core.Bool.{true}
+use mathlib.Core.List.{List, [], _∷_}
 use native.Mathlib.Nat.{add-sub-cancel-left}
 use native.Mathlib.Omega.{arith}
 use lib.Dec.{leb, eqb}
-use lib.ListN.{length, take, drop, length-take, length-drop}
-use lib.Seq.{take-take, drop-drop, take-append-le, drop-append-le}
+use lib.ListN.{length, take, drop}
+use lib.Seq.{take-take, drop-drop}
 use borrow.Author.Tests.{eqb-true}
-use Rattle.rules.specs.Digits.{part, allAtMost, allDigits, digits, sameBytes}
-
-pub both : (a b : Bool) → (a && b) ≡ true → (a ≡ true) × (b ≡ true)
-both true b e = (refl, e)
-both false b e = absurd (false≢true e)
+use Rattle.rules.specs.Digits.{part, allAtMost, allDigits, digits}
+use Rattle.laws.proofs.Tests.{both}
 
 take-in : (i k n : ℕ) (l : List ℕ) → i + k ≤ n → take k (drop i (take n l)) ≡ take k (drop i l)
 take-in zero k n l h = take-take k n l (omega arith)
@@ -26,18 +23,9 @@ take-in (suc i) k (suc n) (x ∷ l) h = take-in i k n l (omega arith)
 pub part-part : (s : List ℕ) (m n i k : ℕ) → i + k ≤ n → part (part s m n) i k ≡ part s (m + i) k
 part-part s m n i k h = take-in i k n (drop m s) h ∙ ap (take k) (drop-drop i m s)
 
-pub part-length : (s : List ℕ) (i k : ℕ) → i + k ≤ length s → length (part s i k) ≡ k
-part-length s i k h = simp (length-take, length-drop) (omega arith)
-
 -- `&s[a..a + n]` is the n bytes from a on
 pub part-to : (s : List ℕ) (a n : ℕ) → part s a (a + n - a) ≡ part s a n
 part-to s a n = ap (λ (k : ℕ). part s a k) (add-sub-cancel-left a n)
-
--- a part of the front
-pub part-front : (s t : List ℕ) (i n : ℕ) → i + n ≤ length s → part (s ++ t) i n ≡ part s i n
-part-front s t i n h =
-    let l = length-drop i s in
-    rw (drop-append-le i s t (omega arith), take-append-le n (drop i s) t (omega arith)) refl
 
 -- what holds of each byte holds of each byte of a part
 module _ (m : ℕ) where
@@ -60,13 +48,3 @@ module _ (m : ℕ) where
 
 pub digits-length : (k : ℕ) (s : List ℕ) → digits k s ≡ true → length s ≡ k
 digits-length k s e = eqb-true (length s) k (both (eqb (length s) k) (allDigits s) e .0)
-
--- the same bytes are equal
-pub same-equal : (s t : List ℕ) → sameBytes s t ≡ true → s ≡ t
-unfolding sameBytes
-same-equal [] [] e = refl
-same-equal [] (y ∷ t) e = absurd (false≢true e)
-same-equal (x ∷ s) [] e = absurd (false≢true e)
-same-equal (x ∷ s) (y ∷ t) e =
-    let b = both (eqb x y) (sameBytes s t) e in
-    rw (eqb-true x y (b .0), same-equal s t (b .1)) refl

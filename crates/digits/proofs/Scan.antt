@@ -1,21 +1,17 @@
 -- Laws of a loop that goes through a list by an index: what the rest from i on is, at i + 1 and at the end.
 use Prim.Native.Nat.{ℕ, zero, suc, _+_, _≤_, _<_, _-_, _*_, _^_, max}
 use mathlib.Core.Path.{_≡_, refl, sym, ap}
-use mathlib.Core.Bool.{Bool, true, false, _&&_, and-assoc, and-true}
+use mathlib.Core.Bool.{Bool, true, false, _&&_, and-assoc, and-true, and-false}
 use mathlib.Core.List.{List, [], _∷_}
-use native.Mathlib.Nat.{pow-suc, pow-le-pow-right, lt-of-lt-of-le}
-use native.Mathlib.Numerals.{add-one}
+use native.Mathlib.Nat.{pow-le-pow-right, lt-of-lt-of-le}
 use native.Mathlib.Omega.{arith}
 use borrow.Author.Tests.{le-leb, lt-leb, leb-true, leb-false}
 use lib.Dec.{leb, eqb, lit<}
 use lib.ListN.{length, getD, drop, take, drop-of-length-le, length-drop}
-use lib.Seq.{drop-cons, take-all}
+use lib.Seq.{take-all}
 use Rattle.rules.specs.Digits.{allAtMost, allAscii, sameBytes, valueFrom}
 use Rattle.rules.specs.File.{sum}
-
--- the rest from i on is the element at i and the rest from i + 1 on
-pub at-next : (s : List ℕ) (i : ℕ) → i < length s → drop i s ≡ getD s i 0 ∷ drop (i + 1) s
-at-next s i h = rw add-one (drop-cons s i 0 h)
+use Rattle.laws.proofs.Bytes.{at-next}
 
 -- `&s[a..]` is the rest from a on
 pub part-rest : (s : List ℕ) (a : ℕ) → take (length s - a) (drop a s) ≡ drop a s
@@ -84,11 +80,7 @@ unfolding sameBytes
 same-length [] [] h = absurd (h refl)
 same-length [] (y ∷ t) h = refl
 same-length (x ∷ s) [] h = refl
-same-length (x ∷ s) (y ∷ t) h = rw (same-length s t (λ e. h (ap suc e))) (go (eqb x y))
-  where
-    go : (b : Bool) → (b && false) ≡ false
-    go true = refl
-    go false = refl
+same-length (x ∷ s) (y ∷ t) h = rw (same-length s t (λ e. h (ap suc e))) (and-false (eqb x y))
 
 module _ (s : List ℕ) (i acc : ℕ) where
   pub value-step : i < length s → valueFrom acc (drop i s) ≡ valueFrom (acc * 10 + getD s i 0) (drop (i + 1) s)
@@ -112,10 +104,6 @@ module _ (s : List ℕ) (i : ℕ) (h : i < length s) where
 pub digit-end : (s : List ℕ) (i : ℕ) → length s ≤ i → allAtMost 9 (drop i s) ≡ true
 unfolding allAtMost
 digit-end s i h = rw drop-of-length-le refl
-
--- a value of i digits, and one digit more
-pub more-digits : (v d i : ℕ) → v < 10 ^ i → d ≤ 9 → v * 10 + d < 10 ^ (i + 1)
-more-digits v d i h l = rw (add-one i, pow-suc 10 i) (omega arith)
 
 -- at most 14 digits fit
 pub fits-digits : (v i : ℕ) → v < 10 ^ i → i ≤ 14 → v < 10 ^ 14

@@ -13,7 +13,8 @@ use Rattle.rules.specs.declared.Cause.{Cause}
 use Rattle.error_file.specs.Head.{hasHead, Headed}
 use Rattle.error_file.specs.Code.{codeIn}
 use Rattle.rules.specs.declared.ErrorCode.{ErrorCode}
-use Rattle.error_file.proofs.Head.{three, both, is-digit, zero-or-one}
+use Rattle.laws.proofs.Tests.{both}
+use Rattle.error_file.proofs.Head.{three, is-digit, zero-or-one}
 
 module _ (s : List ℕ) where
   text-part : take (length s - 6) (drop 6 s) ≡ drop 6 s

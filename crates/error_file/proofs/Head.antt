@@ -2,15 +2,16 @@
 -- Assumes nothing.
 use Prim.Native.Nat.{ℕ, suc, _+_, _-_, _*_, _≤_, _<_}
 use mathlib.Core.Path.{_≡_, _∙_, refl, ap}
-use mathlib.Core.Bool.{Bool, true, false, _&&_, _||_, false≢true, and-true, and-assoc}
+use mathlib.Core.Bool.{Bool, true, _&&_, _||_, and-true, and-assoc}
 use mathlib.Core.List.{List, [], _∷_}
-use mathlib.Core.Logic.{_⊎_, inl, inr, ⊎-elim}
+use mathlib.Core.Logic.{_⊎_, ⊎-elim}
 use native.Mathlib.Omega.{arith}
 use lib.Dec.{leb, eqb}
 use lib.ListN.{length, getD}
 use lib.Seq.{drop-cons}
 use borrow.Author.Tests.{leb-true, eqb-true}
 use Rattle.rules.specs.Digits.{part, allAscii, valueFrom}
+use Rattle.laws.proofs.Tests.{both, either}
 use Rattle.error_file.specs.Head.{asciiDigit, Digit, hasHead}
 use Rattle.error_file.specs.Code.{codeIn}
 
@@ -45,14 +46,6 @@ module _ (s : List ℕ) (room : 6 ≤ length s) where
   code-is a≡ b≡ d≡ e≡ = rw code-part (omega arith)
 
 -- ---- what a passed test says
-pub both : (a b : Bool) → (a && b) ≡ true → (a ≡ true) × (b ≡ true)
-both true b e = (refl, e)
-both false b e = absurd (false≢true e)
-
-either : (a b : Bool) → (a || b) ≡ true → (a ≡ true) ⊎ (b ≡ true)
-either true b e = inl refl
-either false b e = inr e
-
 pub is-digit : (x : ℕ) → asciiDigit x ≡ true → Digit x
 is-digit x e = let b = both (leb 48 x) (leb x 57) e in record { low = leb-true _ _ (b .0); high = leb-true _ _ (b .1) }
 

@@ -1,14 +1,13 @@
 -- The bounds that a lead byte sets, one step of the walk over a text, and its end, on plain values.
 -- Assumes nothing.
-use Prim.Native.Nat.{ℕ, zero, suc, _+_, _-_, _≤_, _<_}
+use Prim.Native.Nat.{ℕ, zero, suc, _-_, _≤_}
 use mathlib.Core.Path.{_≡_, refl, sym}
 use mathlib.Core.Bool.{Bool, cond, _&&_, and-assoc}
 use mathlib.Core.List.{List, [], _∷_}
-use native.Mathlib.Numerals.{add-one, sub-one}
+use native.Mathlib.Numerals.{sub-one}
 use native.Mathlib.Omega.{arith}
 use lib.Dec.{eqb}
-use lib.ListN.{length, getD, drop, drop-of-length-le}
-use lib.Seq.{drop-cons}
+use lib.ListN.{length, drop, drop-of-length-le}
 use borrow.Author.Tests.{eq-eqb, ne-eqb}
 use Rattle.rules.specs.ErrorFile.{within, isLead, more, least, most, utf8From}
 
@@ -37,10 +36,6 @@ module _ (good : Bool) (low high x : ℕ) (xs : List ℕ) where
   unfolding utf8From
   follows zero h = absurd (h refl)
   follows (suc k) h = rw (sub-one (suc k)) (sym (and-assoc good (within low high x) (utf8From k 0x80 0xBF xs)))
-
--- the list from place i on
-pub at-place : (s : List ℕ) (i : ℕ) → i < length s → drop i s ≡ getD s i 0 ∷ drop (i + 1) s
-at-place s i h = rw (add-one, drop-cons s i 0)
 
 -- at the end no byte may be asked for
 ends : (k low high : ℕ) → utf8From k low high [] ≡ eqb k 0

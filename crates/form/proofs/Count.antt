@@ -11,9 +11,10 @@ use borrow.Author.Tests.{le-leb, lt-leb, leb-true}
 use Rattle.rules.specs.Digits.{part, allDigits, value}
 use Rattle.rules.specs.Body.{countOf, counted}
 use Rattle.rules.specs.declared.Format.{Format}
+use Rattle.laws.proofs.Tests.{both}
+use Rattle.laws.proofs.Bytes.{part-length}
 use Rattle.digits.specs.Decimal.{decimalOf}
 use Rattle.digits.specs.declared.Decimal.the-variants.{Number, Broken}
-use Rattle.digits.proofs.Parts.{both, part-length}
 
 is-number : (b : Bool) (v : ℕ) {n : ℕ} → Number n ≡ cond b (Number v) Broken → (b ≡ true) × (v ≡ n)
 is-number true v e = (refl, (cc))

@@ -15,8 +15,10 @@ use Rattle.rules.specs.Digits.{part, digits}
 use Rattle.rules.specs.Body.{countOf, tailDigits, ratesOf, sizeOf, recordShape, recordAt}
 use Rattle.rules.specs.Lister.{totalRates}
 use Rattle.rules.specs.declared.Format.{Format}
+use Rattle.laws.proofs.Tests.{both}
+use Rattle.laws.proofs.Bytes.{part-length}
 use Rattle.form.specs.Walk.{shaped, recordsFrom, recordStart, Whole}
-use Rattle.digits.proofs.Parts.{both, part-length, at-most-part}
+use Rattle.digits.proofs.Parts.{at-most-part}
 use Rattle.form.proofs.Walk.{whole}
 
 -- ---- the fields of a record that stands at the front of s

@@ -14,17 +14,12 @@ use Rattle.rules.specs.Digits.{part, allDigits}
 use Rattle.rules.specs.Body.{Record, schedule, countOf, mostRates, tailDigits, ratesOf, sizeOf, recordShape, recordAt, before, parseRecords, parseRest, isSchedule}
 use Rattle.rules.specs.declared.Format.{Format}
 use Rattle.rules.specs.declared.Format.the-variants.{F201, F202, F203, F301}
+use Rattle.laws.proofs.Tests.{both}
+use Rattle.laws.proofs.Facts.{most-bound, record-shape}
 use Rattle.layout.specs.Records.{countAt, sizeAt}
 use Rattle.layout.proofs.Counts.{count-is}
 use Rattle.form.specs.Walk.{shaped, recordsFrom, Whole, Sized}
 use Rattle.digits.proofs.Scan.{part-rest}
-use Rattle.digits.proofs.Parts.{both}
-
-pub most-bound : (f : Format) → mostRates f ≤ 99999
-most-bound F201 = lit≤ tt
-most-bound F202 = lit≤ tt
-most-bound F203 = lit≤ tt
-most-bound F301 = lit≤ tt
 
 pub count-bound : (f : Format) → countOf f ≤ 13
 count-bound F201 = lit≤ tt
@@ -38,17 +33,12 @@ count-positive F202 = lit≤ tt
 count-positive F203 = lit≤ tt
 count-positive F301 = lit≤ tt
 
--- what `recordShape` says, fact by fact
+-- what `recordShape` says, as far as a walk needs it
 pub whole : (f : Format) (s : List ℕ) → recordShape f s ≡ true → Whole f s
-unfolding recordShape sizeOf
+unfolding sizeOf
 whole f s e =
-    let e₅ = both _ _ e in
-    let e₄ = both _ _ (e₅ .0) in
-    let e₃ = both _ _ (e₄ .0) in
-    let e₂ = both _ _ (e₃ .0) in
-    let e₁ = both (leb 53 (length s)) (allDigits (part s 0 48)) (e₂ .0) in
-    let most : ratesOf s ≤ mostRates f = leb-true _ _ (e₃ .1) in
-    record { few = omega (arith, most-bound f); room = leb-true _ _ (e₄ .1); head = e₁ .1; tail = e₅ .1 }
+    let w = record-shape f s e in
+    record { few = omega (arith, w .most, most-bound f); room = w .size; head = w .head; tail = w .tail }
 
 -- ---- the numbers of a record at the front of s, as a walk reads them
 

@@ -12,8 +12,8 @@ use Rattle.rules.specs.Body.{countOf, tailDigits, ratesOf}
 use Rattle.rules.specs.File.{checksumOf}
 use Rattle.rules.specs.declared.Format.{Format}
 use Rattle.rules.specs.declared.Format.the-variants.{F201, F202, F203, F301}
+use Rattle.laws.proofs.Bytes.{at-next}
 use Rattle.digits.specs.Decimal.{ratesSum}
-use Rattle.digits.proofs.Scan.{at-next}
 use Rattle.layout.specs.Records.{countAt, checksumFor}
 
 -- too few bytes, and enough

@@ -1,2 +1,2 @@
-pub mod Counts
-pub mod Starts
+pub mod Counts  -- a record's rate count, length and checksum
+pub mod Starts  -- starts, next accesses, segments' months; whole months and a 203's dates

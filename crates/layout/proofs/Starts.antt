@@ -12,17 +12,13 @@ use Rattle.rules.specs.Digits.{digits, valueFrom, decimal}
 use Rattle.rules.specs.Calendar.{slotsOfDay, slotCount, daysOfMonth, slotsOfMonth, monthAt, exists, secondsOf, moment, wholeMinute, halfHour, slotOf, startSlot}
 use Rattle.rules.specs.Name.{segmentMonth}
 use Rattle.rules.specs.File.{monthBegins, inTime}
-use Rattle.digits.proofs.Parts.{both}
+use Rattle.laws.proofs.Tests.{both}
 use Rattle.calendar.specs.Moments.{momentOf, monthBegun}
 use Rattle.calendar.specs.declared.dates.Moment.the-variants.{At, Missing}
 use Rattle.calendar.specs.declared.dates.Begun.the-variants.{Month, Nothing}
-use Rattle.calendar.proofs.DateLaws.{missing-none, at-some}
+use Rattle.calendar.proofs.DateLaws.{missing-none, at-some, cond-none}
 use Rattle.calendar.proofs.Begins.{begun-facts, begun-none}
 use Rattle.layout.specs.Dates.{monthHolds, updateHolds}
-
-cond-none : (b : Bool) (x : ℕ) → cond b (some x) none ≡ none → b ≡ false
-cond-none true x e = let z : _≡_ {A = ℕ} 0 1 = cc in absurd (omega arith)
-cond-none false x e = refl
 
 cond-some : (b : Bool) (x : ℕ) {t : ℕ} → cond b (some x) none ≡ some t → b ≡ true
 cond-some true x e = refl

@@ -37,7 +37,8 @@ body-take zero x h = absurd (omega arith)
 body-take (suc k) [] h = sym (take-nil (suc k - (0 + 1)))
 body-take (suc k) (b ∷ x) h = go (eqb b 10) h (λ l. body-take k x l)
   where
-    go : (t : Bool) → length (cond t [] (b ∷ namePart x)) < suc k → (length (namePart x) < k → bodyPart (take k x) ≡ take (k - (length (namePart x) + 1)) (bodyPart x))
+    go : (t : Bool) → length (cond t [] (b ∷ namePart x)) < suc k
+        → (length (namePart x) < k → bodyPart (take k x) ≡ take (k - (length (namePart x) + 1)) (bodyPart x))
         → cond t (take k x) (bodyPart (take k x)) ≡ take (suc k - (length (cond t [] (b ∷ namePart x)) + 1)) (cond t x (bodyPart x))
     go true l ih =
         let e : k ≡ suc k - (0 + 1) = omega arith in

@@ -11,7 +11,7 @@ use lib.ListN.{length, length-append, length-map}
 use Rattle.rules.specs.Digits.{decimal, toAscii}
 use Rattle.rules.specs.File.{sum}
 use Rattle.rules.specs.Lister.{trim, numeral}
-use Rattle.about_files.proofs.Numerals.{length-decimal}
+use Rattle.laws.proofs.Bytes.{length-decimal}
 
 -- a digit more than a number needs is a zero before it
 lead : (k n : ℕ) → n < 10 ^ k → decimal (suc k) n ≡ 0 ∷ decimal k n
@@ -50,7 +50,8 @@ trim-behind [] d h = absurd (omega arith)
 trim-behind (x ∷ []) d h = rw (ne-eqb x 0 (omega arith)) refl
 trim-behind (x ∷ y ∷ s) d h = go (eqb x 0) refl (λ p. trim-behind (y ∷ s) d p)
   where
-    go : (b : Bool) → eqb x 0 ≡ b → (0 < sum (y ∷ s) → trim ((y ∷ s) ++ (d ∷ [])) ≡ trim (y ∷ s) ++ (d ∷ [])) → trim ((x ∷ y ∷ s) ++ (d ∷ [])) ≡ trim (x ∷ y ∷ s) ++ (d ∷ [])
+    go : (b : Bool) → eqb x 0 ≡ b → (0 < sum (y ∷ s) → trim ((y ∷ s) ++ (d ∷ [])) ≡ trim (y ∷ s) ++ (d ∷ []))
+        → trim ((x ∷ y ∷ s) ++ (d ∷ [])) ≡ trim (x ∷ y ∷ s) ++ (d ∷ [])
     go true e ih = let z : x ≡ 0 = eqb-true x 0 e in rw e (ih (omega arith))
     go false e ih = rw e refl
 
@@ -63,7 +64,9 @@ sum-behind (x ∷ s) d = rw (sum-behind s d) (omega arith)
 sum-above : (k n : ℕ) → n < 10 ^ k → 0 < n → 0 < sum (decimal k n)
 unfolding decimal sum
 sum-above zero n h p = absurd (omega arith)
-sum-above (suc k) n h p = rw (sum-behind (decimal k (n / 10)) (n % 10)) (go (eqb (n % 10) 0) refl (λ q. sum-above k (n / 10) (omega (arith, rw pow-suc at h)) q))
+sum-above (suc k) n h p =
+    rw (sum-behind (decimal k (n / 10)) (n % 10))
+    (go (eqb (n % 10) 0) refl (λ q. sum-above k (n / 10) (omega (arith, rw pow-suc at h)) q))
   where
     go : (b : Bool) → eqb (n % 10) 0 ≡ b → (0 < n / 10 → 0 < sum (decimal k (n / 10))) → 0 < sum (decimal k (n / 10)) + n % 10
     go true e ih = let z : n % 10 ≡ 0 = eqb-true (n % 10) 0 e in let t = ih (omega arith) in omega arith

@@ -1,24 +1,21 @@
 -- What a body that parses says of its records: how many there are, how many rates, and how long its bytes can be.
 use Prim.Native.Nat.{ℕ, zero, suc, _+_, _-_, _*_, _≤_, _<_}
 use mathlib.Core.Path.{_≡_, refl, ap}
-use mathlib.Core.Bool.{Bool, true, false, cond, _&&_}
+use mathlib.Core.Bool.{Bool, true, false, cond}
 use mathlib.Core.List.{List, [], _∷_}
 use mathlib.Core.Option.{Option, none, some, Option·map}
 use native.Mathlib.Nat.{suc-mul}
 use native.Mathlib.Omega.{arith}
-use borrow.Author.Tests.{leb-true, ne-eqb}
-use lib.Dec.{leb, eqb·suc-zero}
+use borrow.Author.Tests.{ne-eqb}
+use lib.Dec.{eqb·suc-zero}
 use lib.ListN.{length, drop, length-take, length-drop}
-use Rattle.rules.specs.Digits.{part, allDigits}
-use Rattle.rules.specs.Body.{Record, Body, schedule, mostRates, tailDigits, ratesOf, sizeOf, recordShape, recordAt, before, parseRecords, parseRegistration, parseRest, counted, parseBody}
+use Rattle.rules.specs.Body.{Record, Body, schedule, mostRates, tailDigits, sizeOf, recordShape, recordAt, before, parseRecords, parseRegistration, parseRest, counted, parseBody}
 use Rattle.rules.specs.Lister.{totalRates}
 use Rattle.rules.specs.declared.Format.{Format}
 use Rattle.rules.specs.declared.Format.the-variants.{F201, F202, F203, F301}
-use Rattle.about_files.proofs.Booleans.{both}
+use Rattle.laws.proofs.Tests.{no-some}
+use Rattle.laws.proofs.Facts.{record-shape}
 use Rattle.listing.specs.Bound.{longestBody}
-
-pub nothing : {A X : Type 0} {a : A} → _≡_ {A = Option A} none (some a) → X
-nothing e = let z : _≡_ {A = ℕ} 0 1 = cc in absurd (omega arith)
 
 -- ---- the records
 
@@ -34,16 +31,11 @@ record Fits (f : Format) (s : List ℕ) : Type 0 where
   room : sizeOf f s ≤ length s
 
 front : (f : Format) (s : List ℕ) → recordShape f s ≡ true → Fits f s
-unfolding recordShape recordAt sizeOf
+unfolding recordAt sizeOf
 front f s h =
-    let e = both (leb 53 (length s) && allDigits (part s 0 48) && allDigits (part s 48 5) && leb (ratesOf s) (mostRates f) && leb (sizeOf f s) (length s)) (allDigits (part s (53 + ratesOf s) (tailDigits f))) h .0 in
-    let d = both (leb 53 (length s) && allDigits (part s 0 48) && allDigits (part s 48 5) && leb (ratesOf s) (mostRates f)) (leb (sizeOf f s) (length s)) e in
-    let m : ratesOf s ≤ mostRates f = leb-true (ratesOf s) (mostRates f) (both (leb 53 (length s) && allDigits (part s 0 48) && allDigits (part s 48 5)) (leb (ratesOf s) (mostRates f)) (d .0) .1) in
-    record {
-      few = rw length-take (omega arith);
-      size = omega arith;
-      room = leb-true (sizeOf f s) (length s) (d .1);
-    }
+    let w = record-shape f s h in
+    let m = w .most in
+    record { few = rw length-take (omega arith); size = omega arith; room = w .size }
 
 -- the numbers of one record more
 more-rates : (a b k m : ℕ) → a ≤ m → b ≤ k * m → a + b ≤ suc k * m
@@ -56,12 +48,12 @@ parsed-none : (f : Format) (s : List ℕ) (rs : List Record) → parseRecords f 
 unfolding parseRecords totalRates
 parsed-none f [] [] e = record { count = refl; few = omega arith; short = omega arith }
 parsed-none f [] (r ∷ rs) e = let z : _≡_ {A = ℕ} 0 1 = cc in absurd (omega arith)
-parsed-none f (x ∷ s) rs e = nothing (rw (eqb·suc-zero (length s)) at e)
+parsed-none f (x ∷ s) rs e = no-some (rw (eqb·suc-zero (length s)) at e)
 
 parsed-more : (f : Format) (k : ℕ) (s : List ℕ) (rs : List Record) → Fits f s → (o : Option (List Record))
     → ((rest : List Record) → o ≡ some rest → Parsed f k (drop (sizeOf f s) s) rest) → before (recordAt f s) o ≡ some rs → Parsed f (suc k) s rs
 unfolding totalRates
-parsed-more f k s rs h none ih e = nothing e
+parsed-more f k s rs h none ih e = no-some e
 parsed-more f k s [] h (some rest) ih e = let z : _≡_ {A = ℕ} 0 1 = cc in absurd (omega arith)
 parsed-more f k s (r ∷ rs) h (some rest) ih e =
     let r≡ : recordAt f s ≡ r = cc in
@@ -80,9 +72,11 @@ unfolding parseRecords
 parsed f zero s rs e = parsed-none f s rs e
 parsed f (suc k) s rs e = go (recordShape f s) refl (λ rest q. parsed f k (drop (sizeOf f s) s) rest q)
   where
-    go : (b : Bool) → recordShape f s ≡ b → ((rest : List Record) → parseRecords f k (drop (sizeOf f s) s) ≡ some rest → Parsed f k (drop (sizeOf f s) s) rest) → Parsed f (suc k) s rs
+    go : (b : Bool) → recordShape f s ≡ b
+        → ((rest : List Record) → parseRecords f k (drop (sizeOf f s) s) ≡ some rest → Parsed f k (drop (sizeOf f s) s) rest)
+        → Parsed f (suc k) s rs
     go true h ih = parsed-more f k s rs (front f s h) (parseRecords f k (drop (sizeOf f s) s)) ih (rw h at e)
-    go false h ih = nothing (rw h at e)
+    go false h ih = no-some (rw h at e)
 
 -- ---- the whole body
 

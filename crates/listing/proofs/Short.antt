@@ -6,22 +6,21 @@ use mathlib.Core.List.{List, [], _∷_}
 use mathlib.Core.Option.{Option, none, some, Option·map}
 use native.Mathlib.Nat.{suc-mul}
 use native.Mathlib.Omega.{arith}
-use borrow.Author.Tests.{eqb-true}
 use lib.Dec.{leb, eqb, lit<}
 use lib.ListN.{length, getD, drop}
 use Rattle.rules.specs.Digits.{allDigits, part}
-use Rattle.rules.specs.Calendar.{exists, wholeMinute, monthAt, slotsOfMonth}
 use Rattle.rules.specs.Name.{Name, formatNumber, parseName}
 use Rattle.rules.specs.Body.{Record, Body, schedule, registration, parseRecords, parseRegistration, parseRest, counted, parseBody}
-use Rattle.rules.specs.File.{Outcome, refuse, file, idFits, monthBegins, wholeMonth, monthsFrom, firstMonth, recordDates, datesHold, ratesHold, checksumsHold, plantsHold, stages, withBody, withName, readFile}
+use Rattle.rules.specs.File.{Outcome, refuse, file, idFits, wholeMonth, monthsFrom, firstMonth, recordDates, datesHold, ratesHold, checksumsHold, plantsHold, stages, withBody, withName, readFile}
 use Rattle.rules.specs.Lister.{totalRates, recordCount, rateCount}
 use Rattle.rules.specs.Table.{need}
 use Rattle.rules.specs.declared.Cause.{Cause}
 use Rattle.rules.specs.declared.Format.{Format}
 use Rattle.rules.specs.declared.Format.the-variants.{F201, F202, F203, F301}
-use Rattle.about_files.proofs.Booleans.{both}
+use Rattle.laws.proofs.Tests.{both, no-some}
+use Rattle.laws.proofs.Facts.{month-facts}
 use Rattle.about_files.proofs.Calendar.{days-most}
-use Rattle.listing.proofs.Parsed.{nothing, parsed}
+use Rattle.listing.proofs.Parsed.{parsed}
 
 pub format-small : (f : Format) → formatNumber f < 1000
 format-small F201 = lit< tt
@@ -32,12 +31,11 @@ format-small F301 = lit< tt
 -- ---- the rates of whole months
 
 months-few : (m : ℕ) (rs : List Record) → monthsFrom m rs ≡ true → totalRates rs ≤ length rs * 1536
-unfolding monthsFrom wholeMonth totalRates
+unfolding monthsFrom totalRates
 months-few m [] h = omega arith
 months-few m (r ∷ rs) h =
     let a = both (wholeMonth m r) (monthsFrom (suc m) rs) h in
-    let n = both (exists (wholeMinute (r .start)) && eqb (monthAt (r .start)) m && monthBegins (r .start)) (eqb (length (r .rates)) (slotsOfMonth m)) (a .0) .1 in
-    let e : length (r .rates) ≡ slotsOfMonth m = eqb-true (length (r .rates)) (slotsOfMonth m) n in
+    let e = month-facts m r (a .0) .full in
     rw suc-mul (omega (arith, e, days-most m, months-few (suc m) rs (a .1)))
 
 -- ---- a file that is read
@@ -50,7 +48,7 @@ SmallFile (refuse c) = Unit {0}
 SmallFile (file f) = Small (f .body)
 
 records-of : (o : Option (List Record)) (rs : List Record) → Option·map schedule o ≡ some (schedule rs) → o ≡ some rs
-records-of none rs e = nothing e
+records-of none rs e = no-some e
 records-of (some q) rs e = cc
 
 records-small : (n : Name) (f : Format) (s : List ℕ) (rs : List Record) → parseRest f s ≡ some (schedule rs) → recordDates n f rs ≡ true → Small (schedule rs)
@@ -68,7 +66,7 @@ records-small n F301 s rs e d = go (eqb (length s) 27 && allDigits (part s 0 26)
   where
     go : (b : Bool) → cond b (some (registration (part s 0 26) (getD s 26 0))) none ≡ some (schedule rs) → Small (schedule rs)
     go true q = let z : _≡_ {A = ℕ} 0 1 = cc in absurd (omega arith)
-    go false q = nothing q
+    go false q = no-some q
 
 body-small : (n : Name) (s : List ℕ) (b : Body) → parseBody (n .format) s ≡ some b → datesHold n b ≡ true → Small b
 unfolding parseBody datesHold
@@ -77,7 +75,7 @@ body-small n s (schedule rs) e d = go (counted (n .format) s) e
   where
     go : (t : Bool) → cond t (parseRest (n .format) (drop 6 s)) none ≡ some (schedule rs) → Small (schedule rs)
     go true q = records-small n (n .format) (drop 6 s) rs q d
-    go false q = nothing q
+    go false q = no-some q
 
 need-small : (b : Bool) (c : Cause) (o : Outcome) → (b ≡ true → SmallFile o) → SmallFile (need b (refuse c) o)
 need-small true c o h = h refl

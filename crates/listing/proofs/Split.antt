@@ -3,15 +3,14 @@ use Prim.Native.Nat.{ℕ, suc, _+_, _-_, _≤_, _<_, min}
 use mathlib.Core.Path.{_≡_, _∙_, refl, sym, ap}
 use mathlib.Core.Bool.{Bool, true, false, cond}
 use mathlib.Core.List.{List, [], _∷_}
-use native.Mathlib.Nat.{min-eq-left}
 use native.Mathlib.Numerals.{add-one}
 use native.Mathlib.Omega.{arith}
-use borrow.Author.Tests.{eq-eqb, ne-eqb, leb-true, leb-false}
-use lib.Dec.{eqb, leb}
+use borrow.Author.Tests.{eq-eqb, ne-eqb}
+use lib.Dec.{eqb}
 use lib.ListN.{length, getD, take, drop, drop-of-length-le, length-take}
-use lib.Seq.{drop-length}
 use Rattle.rules.specs.Lister.{namePart, bodyPart}
-use Rattle.digits.proofs.Scan.{at-next, part-rest}
+use Rattle.laws.proofs.Bytes.{at-next, drop-most}
+use Rattle.digits.proofs.Scan.{part-rest}
 
 -- ---- a loop that looks at one byte after another
 
@@ -54,17 +53,6 @@ pub name-within : (x : List ℕ) → length (namePart x) ≤ length x
 name-within x = omega (arith, ap length (name-before x), length-take (length (namePart x)) x)
 
 -- ---- the body as a part of a slice: from past the 0A on, or nothing where there is none
-
-drop-most : (k : ℕ) (x : List ℕ) → drop (min k (length x)) x ≡ drop k x
-drop-most k x = go (leb k (length x)) refl
-  where
-    go : (t : Bool) → leb k (length x) ≡ t → drop (min k (length x)) x ≡ drop k x
-    go true h = ap (λ (j : ℕ). drop j x) (min-eq-left (leb-true k (length x) h))
-    go false h =
-        let l : length x < k = leb-false k (length x) h in
-        let m : min k (length x) ≡ length x = omega arith in
-        let n : length x ≤ k = omega arith in
-        ap (λ (j : ℕ). drop j x) m ∙ drop-length x ∙ sym (drop-of-length-le x n)
 
 pub body-part : (x : List ℕ) (k : ℕ) → k ≡ min (length (namePart x) + 1) (length x) → take (length x - k) (drop k x) ≡ bodyPart x
 body-part x k e =

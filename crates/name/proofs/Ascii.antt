@@ -2,7 +2,7 @@
 -- Assumes nothing.
 use Prim.Native.Nat.{ℕ, _+_, _-_, _*_, _^_, _≤_, _<_}
 use mathlib.Core.Path.{_≡_, refl}
-use mathlib.Core.Bool.{Bool, true, false, _&&_, false≢true}
+use mathlib.Core.Bool.{true, _&&_}
 use mathlib.Core.List.{List, map-append}
 use native.Mathlib.Numerals.{add-one}
 use native.Mathlib.Omega.{arith}
@@ -11,12 +11,9 @@ use lib.Dec.{leb, lit<}
 use lib.ListN.{length, getD, set, take, drop, drop-of-length-le}
 use lib.Seq.{take-suc, take-suc-set, take-all}
 use borrow.Author.Tests.{leb-true}
-use Rattle.digits.proofs.Scan.{at-next}
 use Rattle.rules.specs.Digits.{valueFrom, allAscii, fromAscii}
-
-pub both : (a b : Bool) → (a && b) ≡ true → (a ≡ true) × (b ≡ true)
-both true b e = (refl, e)
-both false b e = absurd (false≢true e)
+use Rattle.laws.proofs.Tests.{both}
+use Rattle.laws.proofs.Bytes.{at-next}
 
 -- ---- values
 

@@ -7,34 +7,23 @@ use mathlib.Core.List.{List, [], _∷_}
 use mathlib.Core.Option.{Option, none, some}
 use native.Mathlib.Omega.{arith}
 use lib.Dec.{leb, eqb}
-use lib.ListN.{length, drop, length-map, length-drop}
-use lib.Seq.{length-take-le}
-use borrow.Author.Tests.{eqb-true, leb-true, le-leb, eq-eqb, ne-eqb}
-use Rattle.rules.specs.Digits.{part, digits, allAtMost, allDigits, value, valueFrom, allAscii, fromAscii, sameBytes}
+use lib.ListN.{length, length-map}
+use borrow.Author.Tests.{eqb-true, leb-true, eq-eqb, ne-eqb}
+use Rattle.rules.specs.Digits.{part, digits, allAtMost, allDigits, value, valueFrom, allAscii, fromAscii}
 use Rattle.rules.specs.Calendar.{exists, moment, secondsOf}
-use Rattle.rules.specs.Name.{Name, formatOf, segmentFits, segmentDigit, segmentMonth, lawfulName, nameShape, nameFields, nameWith, parseName, anySegment, underscore, dotData}
+use Rattle.rules.specs.Name.{Name, formatOf, segmentFits, segmentDigit, segmentMonth, lawfulName, nameShape, nameFields, nameWith, parseName, anySegment}
 use Rattle.rules.specs.declared.Format.{Format}
 use Rattle.rules.specs.declared.Format.the-variants.{F201, F202, F203, F301}
+use Rattle.laws.proofs.Tests.{both, no-some}
+use Rattle.laws.proofs.Bytes.{ascii-digits, part-length}
+use Rattle.laws.proofs.Facts.{name-shape, name-facts, of-digits}
 use Rattle.calendar.specs.Moments.{momentOf}
 use Rattle.calendar.specs.declared.dates.Moment.the-variants.{At, Missing}
 use Rattle.name.specs.Read.{nameRead, plantDigits, fits}
 use Rattle.name.specs.declared.Fields.{Fields}
 use Rattle.name.specs.declared.NameRead.the-variants.{Named, Broken}
-use Rattle.name.proofs.Ascii.{both}
 
 -- ---- ASCII digits as values
-
-pub ascii-digits : (s : List ℕ) → allAscii s ≡ true → allDigits (fromAscii s) ≡ true
-unfolding allAscii allAtMost
-ascii-digits [] e = refl
-ascii-digits (x ∷ s) e =
-    let t = both (leb 48 x && leb x 57) (allAscii s) e in
-    let most = leb-true x 57 (both (leb 48 x) (leb x 57) (t .0) .1) in
-    rw (le-leb (x - 48) 9 (omega arith)) (ascii-digits s (t .1))
-
--- the length of a part that lies within
-pub part-length : (s : List ℕ) (i k : ℕ) → i + k ≤ length s → length (part s i k) ≡ k
-part-length s i k h = length-take-le k (drop i s) (simp length-drop (omega arith))
 
 pub part-digits : (s : List ℕ) (i k : ℕ) → i + k ≤ length s → allAscii (part s i k) ≡ true → digits k (fromAscii (part s i k)) ≡ true
 part-digits s i k h e =
@@ -115,34 +104,6 @@ module _ (s : List ℕ) (e : digits 4 s ≡ true) where
 
 -- ---- the form
 
--- bytes with digits and marks at a name's places
-pub record Shaped (s : List ℕ) : Type 0 where
-  pub long : length s ≡ 55
-  pub format : allAscii (part s 0 3) ≡ true
-  pub segment : allAscii (part s 4 4) ≡ true
-  pub plant : allAscii (part s 9 26) ≡ true
-  pub created : allAscii (part s 36 14) ≡ true
-
-pub shaped : (s : List ℕ) → nameShape s ≡ true → Shaped s
-unfolding nameShape
-shaped s e =
-    let f = allAscii (part s 0 3) in
-    let m = sameBytes (part s 3 1) underscore in
-    let g = allAscii (part s 4 4) in
-    let n = sameBytes (part s 8 1) underscore in
-    let p = allAscii (part s 9 26) in
-    let o = sameBytes (part s 35 1) underscore in
-    let d = allAscii (part s 36 14) in
-    let l = eqb (length s) 55 in
-    let h₇ = both (l && f && m && g && n && p && o && d) (sameBytes (part s 50 5) dotData) e .0 in
-    let t₆ = both (l && f && m && g && n && p && o) d h₇ in
-    let h₅ = both (l && f && m && g && n && p) o (t₆ .0) .0 in
-    let t₄ = both (l && f && m && g && n) p h₅ in
-    let h₃ = both (l && f && m && g) n (t₄ .0) .0 in
-    let t₂ = both (l && f && m) g h₃ in
-    let t₁ = both l f (both (l && f) m (t₂ .0) .0) in
-    record { long = eqb-true (length s) 55 (t₁ .0); format = t₁ .1; segment = t₂ .1; plant = t₄ .1; created = t₆ .1 }
-
 pub unshaped : (s : List ℕ) → nameShape s ≡ false → parseName s ≡ none
 unfolding parseName
 unshaped s e = rw e refl
@@ -156,10 +117,10 @@ createdOf s = fromAscii (part s 36 14)
 
 module _ (s : List ℕ) (shape : nameShape s ≡ true) where
   pub has-segment : digits 4 (segmentOf s) ≡ true
-  has-segment = let t = shaped s shape in part-digits s 4 4 (omega (arith, t .long)) (t .segment)
+  has-segment = let t = name-shape s shape in part-digits s 4 4 (omega (arith, t .long)) (t .segment)
 
   pub has-plant : digits 26 (fromAscii (part s 9 26)) ≡ true
-  has-plant = let t = shaped s shape in part-digits s 9 26 (omega (arith, t .long)) (t .plant)
+  has-plant = let t = name-shape s shape in part-digits s 9 26 (omega (arith, t .long)) (t .plant)
 
   -- of the fields, segment and creation time decide
   pub lawful-is : (f : Format) → lawfulName (nameFields f s) ≡ (fits f (value (segmentOf s)) && (digits 14 (createdOf s) && exists (createdOf s)))
@@ -199,33 +160,23 @@ pub record Parsed (s : List ℕ) (n : Name) : Type 0 where
   pub created-digits : digits 14 (n .created) ≡ true
   pub date : exists (n .created) ≡ true
 
-no-name : {n : Name} {A : Type 0} → none ≡ some n → A
-no-name {n} e = let x : _≡_ {A = ℕ} 0 1 = cc in absurd (omega arith)
-
 -- the fields of a shape, where they are lawful
 lawful-parsed : (s : List ℕ) (f : Format) → nameShape s ≡ true → lawfulName (nameFields f s) ≡ true → Parsed s (nameFields f s)
-unfolding lawfulName
 lawful-parsed s f shape e =
     let n = nameFields f s in
-    let a = digits 4 (n .segment) in
-    let b = segmentFits f (n .segment) in
-    let p = digits 26 (n .plant) in
-    let d = digits 14 (n .created) in
-    let t₄ = both (a && b && p && d) (exists (n .created)) e in
-    let t₃ = both (a && b && p) d (t₄ .0) in
-    let t₂ = both (a && b) p (t₃ .0) in
-    let t₁ = both a b (t₂ .0) in
+    let w = name-facts n e in
+    let segment = of-digits 4 (n .segment) (w .segment) in
     record {
-      long = shaped s shape .long;
+      long = name-shape s shape .long;
       fields = refl;
-      segment = t₁ .0;
-      fitting = t₁ .1;
-      below = segment-below (n .segment) (t₁ .0);
+      segment = segment;
+      fitting = w .fits;
+      below = segment-below (n .segment) segment;
       plant = refl;
-      plant-digits = t₂ .1;
+      plant-digits = of-digits 26 (n .plant) (w .plant);
       created = refl;
-      created-digits = t₃ .1;
-      date = t₄ .1;
+      created-digits = of-digits 14 (n .created) (w .created);
+      date = w .date;
     }
 
 pub parsed : (s : List ℕ) (n : Name) → parseName s ≡ some n → Parsed s n
@@ -234,11 +185,11 @@ parsed s n e = go (nameShape s) refl (formatOf (value (fromAscii (part s 0 3))))
   where
     lawful : (f : Format) (b : Bool) → nameShape s ≡ true → lawfulName (nameFields f s) ≡ b → cond b (some (nameFields f s)) none ≡ some n → Parsed s n
     lawful f true shape l h = let e : nameFields f s ≡ n = cc in rw e at (lawful-parsed s f shape l)
-    lawful f false shape l h = no-name h
+    lawful f false shape l h = no-some h
 
     go : (b : Bool) → nameShape s ≡ b → (o : Option Format) → cond b (nameWith o s) none ≡ some n → Parsed s n
-    go false shape o h = no-name h
-    go true shape none h = no-name h
+    go false shape o h = no-some h
+    go true shape none h = no-some h
     go true shape (some f) h = lawful f (lawfulName (nameFields f s)) shape refl h
 
 -- ---- the plant ID's digits

@@ -1,1 +1,1 @@
-pub mod Plans
+pub mod Plans  -- what each way through the tests decides; a plan's records are the writer's output

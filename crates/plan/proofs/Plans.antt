@@ -20,7 +20,8 @@ use Rattle.rules.specs.Table.{need}
 use Rattle.rules.specs.declared.Cause.{Cause}
 use Rattle.rules.specs.declared.Format.{Format}
 use Rattle.rules.specs.declared.Format.the-variants.{F201, F202, F203, F301}
-use Rattle.digits.proofs.Parts.{both, digits-length}
+use Rattle.laws.proofs.Tests.{both}
+use Rattle.digits.proofs.Parts.{digits-length}
 use Rattle.calendar.specs.Moments.{monthBegun}
 use Rattle.calendar.specs.declared.dates.Begun.the-variants.{Month, Nothing}
 use Rattle.calendar.proofs.Begins.{begun-facts, begun-none}
@@ -304,7 +305,8 @@ module _ (w : Fields) where
     one-need false c p = refl
 
     three-needs : (a b d : Bool) (c₁ c₂ c₃ : Cause) (p : Plan)
-        → need a (refuse c₁) (need b (refuse c₂) (need d (refuse c₃) (outputOf w room p))) ≡ outputOf w room (need a (Refused c₁) (need b (Refused c₂) (need d (Refused c₃) p)))
+        → need a (refuse c₁) (need b (refuse c₂) (need d (refuse c₃) (outputOf w room p)))
+        ≡ outputOf w room (need a (Refused c₁) (need b (Refused c₂) (need d (Refused c₃) p)))
     three-needs a b d c₁ c₂ c₃ p = rw (one-need d c₃ p, one-need b c₂ (need d (Refused c₃) p)) (one-need a c₁ (need b (Refused c₂) (need d (Refused c₃) p)))
 
     -- a 201 or 202

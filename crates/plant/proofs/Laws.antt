@@ -2,7 +2,7 @@
 -- Assumes nothing.
 use Prim.Native.Nat.{ℕ, zero, suc, _*_, _/_, _≤_, _<_, zero-le}
 use mathlib.Core.Path.{_≡_, _∙_, refl, ap}
-use mathlib.Core.Bool.{Bool, true, false, cond, _&&_, false≢true}
+use mathlib.Core.Bool.{Bool, true, false, cond, _&&_}
 use mathlib.Core.List.{List, [], _∷_}
 use native.Mathlib.Nat.{le-trans, mul-le-mul-left, mul-le-mul-right, mul-comm, min-le-right, min-eq-left, div-zero, div-le-of-le-mul, div-mul-le-self, le-div-iff-mul-le}
 use native.Mathlib.Omega.{arith}
@@ -16,6 +16,8 @@ use Rattle.rules.specs.Store.{longestWait}
 use Rattle.rules.specs.Machine.{fixedWait, updateWait, refusedWait}
 use Rattle.rules.specs.declared.Answer.{Answer}
 use Rattle.rules.specs.declared.Cause.{Cause}
+use Rattle.laws.proofs.Tests.{both}
+use Rattle.laws.proofs.Bytes.{at-most-at}
 use Rattle.plant.specs.Plant.{keptFrom, widest, narrowed, isKept, settingsOf, validPlant, plantOf, noPlant, refusal, installed}
 use Rattle.plant.specs.declared.Plant.{Plant}
 
@@ -47,17 +49,6 @@ pub record Valid (p : Plant) : Type 0 where
   pub mac : Mac (p .mac)
   pub settings : InRange (settingsOf p)
 
-both : (a b : Bool) → (a && b) ≡ true → (a ≡ true) × (b ≡ true)
-both true b e = (refl, e)
-both false b e = absurd (false≢true e)
-
--- past the end getD is 0, so that this holds at every place
-at-most-at : (m : ℕ) (s : List ℕ) → allAtMost m s ≡ true → (i : ℕ) → getD s i 0 ≤ m
-unfolding allAtMost
-at-most-at m [] e i = zero-le
-at-most-at m (x ∷ xs) e zero = leb-true x m (both (leb x m) (allAtMost m xs) e .0)
-at-most-at m (x ∷ xs) e (suc i) = at-most-at m xs (both (leb x m) (allAtMost m xs) e .1) i
-
 hex-at : (s : List ℕ) → allHex s ≡ true → (i : ℕ) → i < length s → hexByte (getD s i 0) ≡ true
 unfolding allHex
 hex-at [] e i h = absurd (omega arith)
@@ -69,7 +60,7 @@ unfolding plantId
 id-facts id e =
     let w = both (digits 26 id) (eqb (lastDigit id) (checkDigit id)) e in
     let d = both (eqb (length id) 26) (allAtMost 9 id) (w .0) in
-    let digit = at-most-at 9 id (d .1) in
+    let digit : (i : ℕ) → getD id i 0 ≤ 9 = λ i. at-most-at 9 id i (d .1) in
     record { long = eqb-true _ _ (d .0); digit = digit; last = digit 25; check = eqb-true _ _ (w .1) }
 
 pub mac-facts : (mac : List ℕ) → macAddress mac ≡ true → Mac mac
@@ -167,7 +158,9 @@ module _ (id mac : List ℕ) (s : Settings) where
     unfolding validPlant installing
     accepted-values = go (plantId id) (macAddress mac) (validSettings s) a
       where
-        go : (i m v : Bool) → cond i (cond (m && v) Answer.Accepted (Answer.Refused Cause.Setting)) (Answer.Refused Cause.PlantId) ≡ Answer.Accepted → (i && m && v) ≡ true
+        go : (i m v : Bool)
+            → cond i (cond (m && v) Answer.Accepted (Answer.Refused Cause.Setting)) (Answer.Refused Cause.PlantId) ≡ Answer.Accepted
+            → (i && m && v) ≡ true
         go true true true e = refl
         go true true false e = cc
         go true false v e = cc

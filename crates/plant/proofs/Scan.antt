@@ -13,7 +13,8 @@ use lib.Dec.{eqb, lit≤}
 use lib.ListN.{length, getD, drop, drop-of-length-le}
 use Rattle.rules.specs.Store.{allBelow}
 use Rattle.rules.specs.Plant.{weights, weightedSum, allHex, hexByte}
-use Rattle.digits.proofs.Scan.{at-next, all-step, all-end}
+use Rattle.laws.proofs.Bytes.{at-next}
+use Rattle.digits.proofs.Scan.{all-step, all-end}
 
 pub hex-step : (s : List ℕ) (i : ℕ) (good : Bool) → i < length s → (good && allHex (drop i s)) ≡ ((good && hexByte (getD s i 0)) && allHex (drop (i + 1) s))
 unfolding allHex

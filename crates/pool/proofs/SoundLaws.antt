@@ -1,35 +1,22 @@
 -- The pool's own test of soundness is 01's: the held months and their blocks, as lists.
 use mathlib.Core.Path.{_≡_, refl, sym, ap, _∙_}
 use mathlib.Core.Logic.{_⊎_, inl, inr, ⊎-elim}
-use mathlib.Core.Bool.{Bool, true, false, cond, not, _&&_, _||_, Bool·beq, true≢false, false≢true}
+use mathlib.Core.Bool.{Bool, true, false, cond, not, _&&_, Bool·beq, false≢true, or-true, Bool·not-not}
 use mathlib.Core.List.{List, [], _∷_, map}
 use Prim.Native.Nat.{ℕ, zero, suc, _≤_, _<_}
 use native.Mathlib.Omega.{arith}
 use native.Mathlib.Nat.{le-of-suc-le-suc, eq-or-lt-of-le}
 use lib.Dec.{leb, ltb, eqb}
-use borrow.Author.Tests.{lt-ltb, le-ltb, le-leb, eq-eqb, ne-eqb, ltb-true, ltb-false, leb-true, eqb-true, not-true}
+use borrow.Author.Tests.{lt-ltb, le-ltb, le-leb, eq-eqb, ltb-true, ltb-false, leb-true, eqb-true, not-true}
 use Rattle.rules.specs.Calendar.{monthCount}
 use Rattle.rules.specs.Store.{Held as HeldMonth, member, distinct, all, allBelow, soundMonths, soundBlocks, blockCount}
+use Rattle.laws.proofs.Tests.{both, same, either}
 use Rattle.pool.specs.Blocks.{isFree, monthOf, soundOf}
 use Rattle.pool.specs.Held.{InBlock, Sound, heldBelow, heldOf, soundPool}
 use Rattle.pool.specs.declared.Pool.{Pool}
-use Rattle.pool.proofs.BelowLaws.{and-true}
 use Rattle.pool.proofs.Laws.{sound-is}
 
 -- ---- tests
-
-bool-same : (a b : Bool) → (a ≡ true → b ≡ true) → (b ≡ true → a ≡ true) → a ≡ b
-bool-same true b f g = sym (f refl)
-bool-same false true f g = g refl
-bool-same false false f g = refl
-
-or-cases : (a b : Bool) → a || b ≡ true → (a ≡ true) ⊎ (b ≡ true)
-or-cases true b e = inl refl
-or-cases false b e = inr e
-
-or-right : (a : Bool) → a || true ≡ true
-or-right true = refl
-or-right false = refl
 
 not-member : (b : Bool) → (b ≡ true → ⊥) → not b ≡ true
 not-member true h = absurd (h refl)
@@ -38,10 +25,6 @@ not-member false h = refl
 beq-same : (a : Bool) → Bool·beq a a ≡ true
 beq-same true = refl
 beq-same false = refl
-
-not-not : (a : Bool) → not (not a) ≡ a
-not-not true = refl
-not-not false = refl
 
 -- ---- the two lists of the blocks below k
 
@@ -58,7 +41,7 @@ grown k p x = cond x (heldBelow k p) (record { month = monthOf p k; block = k } 
 -- of numbers other than k
 later : (b k : ℕ) → (b ≡ k → ⊥) → ltb b (suc k) ≡ ltb b k
 later b k n =
-    bool-same (ltb b (suc k)) (ltb b k)
+    same {a = ltb b (suc k)} {b = ltb b k}
     (λ e. lt-ltb b k (⊎-elim (λ s. absurd (n s)) (λ l. l) (eq-or-lt-of-le (le-of-suc-le-suc (ltb-true b (suc k) e)))))
     (λ e. lt-ltb b (suc k) (omega (arith, ltb-true b k e)))
 
@@ -106,7 +89,7 @@ blocks-sound : (p : Pool) → soundBlocks (isFree p) (blocksOf (heldOf p)) ≡ t
 unfolding soundBlocks
 blocks-sound p =
     rw (blocks-distinct blockCount p, blocks-below blockCount p (omega arith))
-    (all-blocks blockCount _ (λ b l. rw (block-member blockCount p b, lt-ltb b blockCount l, not-not (isFree p b)) (beq-same (isFree p b))))
+    (all-blocks blockCount _ (λ b l. rw (block-member blockCount p b, lt-ltb b blockCount l, Bool·not-not (isFree p b)) (beq-same (isFree p b))))
 
 -- ---- the months
 
@@ -121,7 +104,7 @@ month-in (suc k) p b l u = go (λ h. month-in k p b h u) (isFree p k) refl (eq-o
     go r true f (inl s) = absurd (false≢true (sym u ∙ ap (isFree p) s ∙ f))
     go r true f (inr h) = r h
     go r false f (inl s) = rw (eq-eqb (monthOf p b) (monthOf p k) (ap (monthOf p) s))
-    go r false f (inr h) = rw (r h) (or-right (eqb (monthOf p b) (monthOf p k)))
+    go r false f (inr h) = rw (r h) (or-true (eqb (monthOf p b) (monthOf p k)))
 
 -- the used blocks below k that have month m
 abbrev Below : ℕ → Pool → ℕ → Type 0
@@ -135,10 +118,12 @@ month-out (suc k) p m e = go (month-out k p m) (isFree p k) refl e
     up : Below k p m → Below (suc k) p m
     up w = (w .0, omega (arith, w .1), w .2, w .3)
 
-    go : (member m (monthsOf (heldBelow k p)) ≡ true → Below k p m) → (x : Bool) → isFree p k ≡ x → member m (monthsOf (grown k p x)) ≡ true → Below (suc k) p m
+    go : (member m (monthsOf (heldBelow k p)) ≡ true → Below k p m) → (x : Bool) → isFree p k ≡ x
+        → member m (monthsOf (grown k p x)) ≡ true → Below (suc k) p m
     go r true f d = up (r d)
     go r false f d =
-        ⊎-elim (λ s. (k, omega arith, f, sym (eqb-true m (monthOf p k) s))) (λ d′. up (r d′)) (or-cases (eqb m (monthOf p k)) (member m (monthsOf (heldBelow k p))) d)
+        ⊎-elim (λ s. (k, omega arith, f, sym (eqb-true m (monthOf p k) s))) (λ d′. up (r d′))
+        (either (eqb m (monthOf p k)) (member m (monthsOf (heldBelow k p))) d)
 
 -- ---- 01's words from a sound pool
 
@@ -151,7 +136,9 @@ module _ (p : Pool) (floor : ℕ) (s : Sound p floor) where
       other : isFree p k ≡ false → member (monthOf p k) (monthsOf (heldBelow k p)) ≡ true → ⊥
       other u d =
           let w = month-out k p (monthOf p k) d in
-          let same : w .0 ≡ k = s .one (monthOf p k) (w .0) k (record { below = omega (arith, w .1); used = w .2; month = w .3 }) (record { below = l; used = u; month = refl }) in
+          let below : InBlock p (monthOf p k) (w .0) = record { below = omega (arith, w .1); used = w .2; month = w .3 } in
+          let top : InBlock p (monthOf p k) k = record { below = l; used = u; month = refl } in
+          let same : w .0 ≡ k = s .one (monthOf p k) (w .0) k below top in
           omega (arith, w .1)
 
       go : distinct (monthsOf (heldBelow k p)) ≡ true → (x : Bool) → isFree p k ≡ x → distinct (monthsOf (grown k p x)) ≡ true
@@ -176,34 +163,37 @@ all-member : (t : ℕ → Bool) (ms : List ℕ) (m : ℕ) → all t ms ≡ true 
 unfolding all member
 all-member t [] m e d = absurd (false≢true d)
 all-member t (x ∷ ms) m e d =
-    let w = and-true (t x) (all t ms) e in
-    ⊎-elim (λ q. ap t (eqb-true m x q) ∙ w .0) (λ q. all-member t ms m (w .1) q) (or-cases (eqb m x) (member m ms) d)
+    let w = both (t x) (all t ms) e in
+    ⊎-elim (λ q. ap t (eqb-true m x q) ∙ w .0) (λ q. all-member t ms m (w .1) q) (either (eqb m x) (member m ms) d)
 
 distinct-down : (n k : ℕ) (p : Pool) → k ≤ n → distinct (monthsOf (heldBelow n p)) ≡ true → distinct (monthsOf (heldBelow k p)) ≡ true
 unfolding heldBelow distinct
 distinct-down zero zero p l e = e
 distinct-down zero (suc k) p l e = absurd (omega arith)
-distinct-down (suc n) k p l e = ⊎-elim (λ q. ap (λ (j : ℕ). distinct (monthsOf (heldBelow j p))) q ∙ e) (λ h. distinct-down n k p (le-of-suc-le-suc h) (go (isFree p n) e)) (eq-or-lt-of-le l)
+distinct-down (suc n) k p l e =
+    ⊎-elim (λ q. ap (λ (j : ℕ). distinct (monthsOf (heldBelow j p))) q ∙ e)
+    (λ h. distinct-down n k p (le-of-suc-le-suc h) (go (isFree p n) e))
+    (eq-or-lt-of-le l)
   where
     go : (x : Bool) → distinct (monthsOf (grown n p x)) ≡ true → distinct (monthsOf (heldBelow n p)) ≡ true
     go true d = d
-    go false d = and-true (not (member (monthOf p n) (monthsOf (heldBelow n p)))) (distinct (monthsOf (heldBelow n p))) d .1
+    go false d = both (not (member (monthOf p n) (monthsOf (heldBelow n p)))) (distinct (monthsOf (heldBelow n p))) d .1
 
 -- a month does not stand in the list below its own block
 once : (p : Pool) (b : ℕ) → isFree p b ≡ false → distinct (monthsOf (heldBelow (suc b) p)) ≡ true → member (monthOf p b) (monthsOf (heldBelow b p)) ≡ false
 unfolding heldBelow distinct
-once p b u e = not-true _ (and-true (not (member (monthOf p b) (monthsOf (heldBelow b p)))) (distinct (monthsOf (heldBelow b p))) (rw u at e) .0)
+once p b u e = not-true _ (both (not (member (monthOf p b) (monthsOf (heldBelow b p)))) (distinct (monthsOf (heldBelow b p))) (rw u at e) .0)
 
 module _ (p : Pool) (floor : ℕ) (e : soundMonths floor (monthsOf (heldOf p)) ≡ true) where
   apart : distinct (monthsOf (heldOf p)) ≡ true
   unfolding soundMonths
-  apart = and-true (distinct (monthsOf (heldOf p))) (all (λ m. leb floor m && ltb m monthCount) (monthsOf (heldOf p))) e .0
+  apart = both (distinct (monthsOf (heldOf p))) (all (λ m. leb floor m && ltb m monthCount) (monthsOf (heldOf p))) e .0
 
   range : (m b : ℕ) → InBlock p m b → (leb floor m && ltb m monthCount) ≡ true
   unfolding soundMonths
   range m b i =
       all-member (λ m. leb floor m && ltb m monthCount) (monthsOf (heldOf p)) m
-      (and-true (distinct (monthsOf (heldOf p))) (all (λ m. leb floor m && ltb m monthCount) (monthsOf (heldOf p))) e .1)
+      (both (distinct (monthsOf (heldOf p))) (all (λ m. leb floor m && ltb m monthCount) (monthsOf (heldOf p))) e .1)
       (rw (i .month) at (month-in blockCount p b (i .below) (i .used)))
 
   -- no two used blocks, one above the other, have one month
@@ -215,8 +205,8 @@ module _ (p : Pool) (floor : ℕ) (e : soundMonths floor (monthsOf (heldOf p)) �
 
   pool-sound : Sound p floor
   pool-sound = record {
-    low = λ m b i. leb-true floor m (and-true (leb floor m) (ltb m monthCount) (range m b i) .0);
-    high = λ m b i. le-of-suc-le-suc (ltb-true m monthCount (and-true (leb floor m) (ltb m monthCount) (range m b i) .1));
+    low = λ m b i. leb-true floor m (both (leb floor m) (ltb m monthCount) (range m b i) .0);
+    high = λ m b i. le-of-suc-le-suc (ltb-true m monthCount (both (leb floor m) (ltb m monthCount) (range m b i) .1));
     one = λ m a b i j. go m a b i j (ltb a b) refl (ltb b a) refl;
   }
     where
@@ -230,11 +220,11 @@ module _ (p : Pool) (floor : ℕ) (e : soundMonths floor (monthsOf (heldOf p)) �
 pub sound-same : (p : Pool) (floor : ℕ) → soundOf p floor ≡ soundPool p floor
 unfolding soundPool soundMonths
 sound-same p floor =
-    bool-same (soundOf p floor) (soundPool p floor)
+    same {a = soundOf p floor} {b = soundPool p floor}
     (λ e.
     let s = sound-is p floor .0 e in
     rw (months-distinct p floor s blockCount (omega arith), months-range p floor s blockCount (omega arith)) (blocks-sound p))
-    (λ e. sound-is p floor .1 (pool-sound p floor (and-true (soundMonths floor (monthsOf (heldOf p))) (soundBlocks (isFree p) (blocksOf (heldOf p))) e .0)))
+    (λ e. sound-is p floor .1 (pool-sound p floor (both (soundMonths floor (monthsOf (heldOf p))) (soundBlocks (isFree p) (blocksOf (heldOf p))) e .0)))
 
 -- 01's soundness of the pool, as facts
 pub pool-facts : (p : Pool) (floor : ℕ) → soundPool p floor ≡ true → Sound p floor

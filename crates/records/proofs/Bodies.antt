@@ -8,7 +8,7 @@ use mathlib.Core.Option.{none, some, Option·map}
 use lib.ListN.{length, take, drop}
 use Rattle.rules.specs.Body.{Record, schedule, countOf, parseBody, counted, isSchedule}
 use Rattle.rules.specs.declared.Format.{Format}
-use Rattle.digits.proofs.Parts.{both}
+use Rattle.laws.proofs.Tests.{both}
 use Rattle.digits.proofs.Scan.{part-rest}
 use Rattle.form.specs.Walk.{shaped, recordsFrom}
 use Rattle.form.proofs.Walk.{rest-is}

@@ -66,12 +66,15 @@ pub found-facts : (f : Format) (body : List ℕ) (i : ℕ) {p : Places} → At p
 unfolding locate
 found-facts f body i {p} e = go (ltb i (countOf f)) refl (isSchedule f) refl e
   where
-    last : (t : Bool) → t ≡ standing f body → i < countOf f → isSchedule f ≡ true → At p ≡ need t (Refused Cause.Form) (At (placesAt f body i)) → FoundAt f body i p
+    last : (t : Bool) → t ≡ standing f body → i < countOf f → isSchedule f ≡ true
+        → At p ≡ need t (Refused Cause.Form) (At (placesAt f body i)) → FoundAt f body i p
     last true q h s e = record { inside = h; scheduled = s; stands = sym q; places = cc }
     last false q h s e = let z : _≡_ {A = ℕ} 0 1 = cc in absurd (omega arith)
 
     go : (a : Bool) → ltb i (countOf f) ≡ a → (b : Bool) → isSchedule f ≡ b
-        → At p ≡ need a (Refused Cause.Range) (need b (Refused Cause.Name) (need (parses (parseBody f body)) (Refused Cause.Form) (At (placesAt f body i)))) → FoundAt f body i p
+        → At p
+        ≡ need a (Refused Cause.Range) (need b (Refused Cause.Name) (need (parses (parseBody f body)) (Refused Cause.Form) (At (placesAt f body i))))
+        → FoundAt f body i p
     go true h true s e = last (parses (parseBody f body)) (parses-is f body s) (ltb-true i (countOf f) h) s e
     go true h false s e = let z : _≡_ {A = ℕ} 0 1 = cc in absurd (omega arith)
     go false h b s e = let z : _≡_ {A = ℕ} 0 1 = cc in absurd (omega arith)
@@ -131,7 +134,9 @@ record-missing f body i {c} e = go (isSchedule f) refl (ltb i (countOf f)) refl 
     last false q s e = none-at f body i s (sym q)
 
     go : (b : Bool) → isSchedule f ≡ b → (a : Bool) → ltb i (countOf f) ≡ a
-        → Refused c ≡ need a (Refused Cause.Range) (need b (Refused Cause.Name) (need (parses (parseBody f body)) (Refused Cause.Form) (At (placesAt f body i)))) → recordIn f body i ≡ none
+        → Refused c
+        ≡ need a (Refused Cause.Range) (need b (Refused Cause.Name) (need (parses (parseBody f body)) (Refused Cause.Form) (At (placesAt f body i))))
+        → recordIn f body i ≡ none
     go false s a h e = none-registered f body i s
     go true s true h e = last (parses (parseBody f body)) (parses-is f body s) s e
     go true s false h e = none-past f body i s (ltb-false i (countOf f) h) (standing f body) refl

@@ -12,9 +12,10 @@ use Rattle.rules.specs.Writer.{Output, refuse, fitting, writtenOf, bufferAfter}
 use Rattle.rules.specs.declared.Cause.{Cause}
 use Rattle.rules.specs.declared.Written.{Written}
 use Rattle.rules.specs.declared.Format.{Format}
+use Rattle.laws.proofs.Bytes.{part-length}
 use Rattle.digits.proofs.Scan.{part-rest}
 use Rattle.digits.specs.Placed.{placed}
-use Rattle.digits.proofs.Parts.{part-to, part-length}
+use Rattle.digits.proofs.Parts.{part-to}
 use Rattle.digits.proofs.Placing.{placed-none, placed-next, no-room, with-room}
 use Rattle.layout.specs.Records.{countAt}
 use Rattle.form.specs.Walk.{shaped, recordsFrom, Whole}

@@ -49,13 +49,13 @@ use Rattle.rules.specs.declared.Answer.{Answer}
 use Rattle.rules.specs.declared.Format.the-variants.{F203}
 
 -- 'Plant X is 12345678901234567890123455', here without its last digit
-plantX : ℕ → List ℕ
+unfoldable pub plantX : ℕ → List ℕ
 plantX last = (1 ∷ 2 ∷ 3 ∷ 4 ∷ 5 ∷ 6 ∷ 7 ∷ 8 ∷ 9 ∷ 0 ∷ []) ++ ((1 ∷ 2 ∷ 3 ∷ 4 ∷ 5 ∷ 6 ∷ 7 ∷ 8 ∷ 9 ∷ 0 ∷ []) ++ (1 ∷ 2 ∷ 3 ∷ 4 ∷ 5 ∷ last ∷ []))
 
-abbrev mac : List ℕ
+abbrev pub mac : List ℕ
 mac = replicate 12 48
 
-abbrev settings : Settings
+abbrev pub settings : Settings
 settings = record { panel = 4000; inverter = 5500; minutes = 5 }
 
 -- a refusal's number, and 0 where there is none
@@ -127,7 +127,7 @@ pub record Example : Type 0 where
   pub computed : ℕ
   pub stated : ℕ
 
-abbrev line : ℕ → ℕ → ℕ → Example
+abbrev pub line : ℕ → ℕ → ℕ → Example
 line n a b = record { number = n; computed = a; stated = b }
 
 pub table : List Example
@@ -157,7 +157,7 @@ table =
     ∷ line 9 failedAt (9000 * dayLength + clock 23 40 0)
     ∷ []
 
-pub allHold : List Example → Bool
+unfoldable pub allHold : List Example → Bool
 allHold [] = true
 allHold (e ∷ es) = eqb (e .computed) (e .stated) && allHold es
 

@@ -15,3 +15,4 @@ pub mod Rows
 pub mod Lister
 pub mod Reading
 pub mod Examples
+pub mod RowExamples

@@ -9,7 +9,7 @@ use native.Mathlib.Omega.{arith}
 use borrow.Author.Fill.{fill-more}
 use borrow.Rule.Slice.PartMut.{midOf, putMid, mid-len, post-is}
 use lib.ListN.{length, getD, take, drop, set, replicate, length-replicate}
-use lib.Seq.{take-suc, take-suc-set, take-all, drop-length, sets, sets-eq}
+use lib.Seq.{take-suc, take-suc-set, drop-length, sets, sets-eq}
 
 -- an element within the list is the same for every default
 pub getD-in : (l : List ℕ) (i d e : ℕ) → i < length l → getD l i d ≡ getD l i e
@@ -32,9 +32,6 @@ pub copy-step : (to from : List ℕ) (i v : ℕ) → i < length from → length 
 copy-step to from i v h e f t =
     let h′ : i < length to = omega arith in
     rw (add-one i, take-suc-set to i v h′, take-suc from i 0 h, t, f) refl
-
-pub copy-end : (to from : List ℕ) (i : ℕ) → length from ≤ i → length to ≡ length from → take i to ≡ take i from → to ≡ from
-copy-end to from i h e t = rw (take-all i to (omega arith), take-all i from h) at t
 
 -- ---- a part that was lent and comes back with other elements
 

@@ -1,8 +1,8 @@
 -- Laws of putting rates: what each step of `putRun` is, by the tests that the code makes.
 -- Assumes nothing.
 use Prim.Native.Nat.{ℕ, suc, _+_, _-_, _≤_, _<_, min, max}
-use mathlib.Core.Path.{_≡_, _∙_, refl, sym, ap}
-use mathlib.Core.Bool.{Bool, true, false, _&&_}
+use mathlib.Core.Path.{_≡_, _∙_, sym, ap}
+use mathlib.Core.Bool.{true, false, _&&_, and-false}
 use mathlib.Core.List.{List}
 use mathlib.Core.Logic.{⊎-elim}
 use native.Mathlib.Nat.{eq-zero-or-pos}
@@ -14,6 +14,7 @@ use lib.Seq.{sets}
 use borrow.Author.Tests.{eqb-true}
 use Rattle.rules.specs.Calendar.{firstSlot, monthOfSlot, slotCount}
 use Rattle.rules.specs.Store.{storeLength, rateBytes, blockCount, blockLength}
+use Rattle.laws.proofs.Tests.{both}
 use Rattle.calendar.proofs.Laws.{first-slot-step, days-range}
 use Rattle.pool.specs.Blocks.{isFree, freeCount, given, findOf, takeOf}
 use Rattle.pool.specs.declared.Pool.{Pool}
@@ -22,7 +23,6 @@ use Rattle.pool.specs.declared.Found.{Found}
 use Rattle.pool.specs.declared.Found.the-variants.{At, Nothing}
 use Rattle.pool.specs.declared.Place.{Place}
 use Rattle.pool.specs.declared.Place.the-variants.{In, Full}
-use Rattle.pool.proofs.BelowLaws.{and-true}
 use Rattle.pool.proofs.Laws.{found-none, take-full, take-in, take-left, take-found}
 use Rattle.schedule.specs.Stored.{Stored, Piece, place, blank, opened, openBy, openMonth, laid, layBy, layPiece, putPiece, pieceIn, canPut, putRun}
 use Rattle.schedule.specs.Rates.{storedOf, pieceOf}
@@ -92,10 +92,6 @@ module _ (floor : ℕ) (q : Piece) (s : Stored) where
   unfolding putPiece
   piece-out e = rw e
 
-and-none : (x : Bool) → (x && false) ≡ false
-and-none true = refl
-and-none false = refl
-
 -- numbers: a part from low to high, as the code counts it from s on
 part-count : (s low high : ℕ) → s ≤ low → low < high → (high - s) - (low - s) ≡ high - low
 part-count s low high h k = omega arith
@@ -122,7 +118,7 @@ module _ (m s first low high : ℕ) (rates : List ℕ) (f : first ≡ firstSlot 
   unfolding pieceIn
   piece-none k floor st =
       let z : min (s + length rates) (firstSlot (suc m)) - max s (firstSlot m) ≡ 0 = omega arith in
-      sym (piece-out floor (pieceIn m s rates) st (rw z (and-none (leb floor m))))
+      sym (piece-out floor (pieceIn m s rates) st (rw z (and-false (leb floor m))))
 
 -- ---- a run
 
@@ -141,5 +137,5 @@ module _ (floor s : ℕ) (rates : List ℕ) (st : Stored) where
   pub can-long : canPut s rates st ≡ true → length (st .store) ≡ storeLength
   unfolding canPut
   can-long e =
-      let w = and-true (eqb (length (st .store)) storeLength && leb (s + length rates) slotCount) (leb (s + length rates) (firstSlot (suc (suc (monthOfSlot s))))) e in
-      eqb-true _ _ (and-true (eqb (length (st .store)) storeLength) (leb (s + length rates) slotCount) (w .0) .0)
+      let w = both (eqb (length (st .store)) storeLength && leb (s + length rates) slotCount) (leb (s + length rates) (firstSlot (suc (suc (monthOfSlot s))))) e in
+      eqb-true _ _ (both (eqb (length (st .store)) storeLength) (leb (s + length rates) slotCount) (w .0) .0)

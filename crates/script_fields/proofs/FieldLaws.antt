@@ -1,7 +1,7 @@
 -- Laws of words that stand for bytes: which bytes they are, case by case, and what is said of them in a buffer.
 use Prim.Native.Nat.{ℕ, zero, suc, _+_, _-_, _≤_, _<_}
-use mathlib.Core.Path.{_≡_, _∙_, refl, sym, ap}
-use mathlib.Core.Bool.{Bool, true, false, cond, _&&_}
+use mathlib.Core.Path.{_≡_, _∙_, refl, ap}
+use mathlib.Core.Bool.{Bool, true, false}
 use mathlib.Core.List.{List, [], _∷_, _++_, map}
 use mathlib.Core.Option.{Option, none, some}
 use native.Mathlib.Omega.{arith}
@@ -10,10 +10,10 @@ use lib.Dec.{leb}
 use lib.ListN.{length, getD, take, drop}
 use lib.Seq.{paste, take-length}
 use Rattle.rules.specs.Digits.{sameBytes}
+use Rattle.laws.proofs.Tests.{both}
 use Rattle.script_fields.specs.Hex.{allHex, hexBytes}
 use Rattle.script_fields.specs.Field.{mark, marked, hexField, plainByte, plainField, bodyField, fieldIn, bufferWith}
 use Rattle.script_fields.specs.declared.field.Field.{Field}
-use Rattle.script_fields.proofs.RangeLaws.{both}
 
 -- ---- what a function that puts these bytes says and leaves
 

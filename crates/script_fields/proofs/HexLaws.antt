@@ -1,15 +1,15 @@
 -- Laws of hex digits: digits tested and read pair by pair, and bytes spelt in pairs of digits.
 use Prim.Native.Nat.{ℕ, zero, suc, _+_, _-_, _*_, _/_, _%_, _≤_, _<_}
 use mathlib.Core.Path.{_≡_, _∙_, refl, sym, ap}
-use mathlib.Core.Bool.{Bool, true, false, cond, _&&_, and-assoc, false≢true}
+use mathlib.Core.Bool.{Bool, true, false, _&&_, and-assoc, false≢true}
 use mathlib.Core.List.{List, [], _∷_}
 use native.Mathlib.Omega.{arith}
 use borrow.Author.Tests.{ltb-true}
-use lib.Dec.{leb, ltb, eqb}
+use lib.Dec.{ltb, eqb}
 use lib.ListN.{length, getD, take, drop}
+use Rattle.laws.proofs.Tests.{both}
 use Rattle.digits.proofs.Scan.{part-rest}
 use Rattle.script_fields.specs.Hex.{nibble, isHexDigit, allHex, hexBytes, glyph, hexText}
-use Rattle.script_fields.proofs.RangeLaws.{both}
 
 -- ---- the test of a pair more
 

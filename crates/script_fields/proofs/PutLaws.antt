@@ -17,13 +17,15 @@ pub put-step : (d b : List ℕ) (k i : ℕ) {out : List ℕ} {x : ℕ} → out �
 put-step d b k i e f h l = rw (e, f, add-one i) (paste-suc d k b i 0 h l)
 
 -- the same from the start on
-pub put-start : (d b : List ℕ) (i : ℕ) {out : List ℕ} {x : ℕ} → out ≡ paste d 0 b i → x ≡ getD b i 0 → i < length d → i < length b → set out i x ≡ paste d 0 b (i + 1)
+pub put-start : (d b : List ℕ) (i : ℕ) {out : List ℕ} {x : ℕ} → out ≡ paste d 0 b i → x ≡ getD b i 0 → i < length d → i < length b
+    → set out i x ≡ paste d 0 b (i + 1)
 put-start d b i {out} {x} e f h l =
     let z : 0 + i ≡ i = omega arith in
     sym (ap (λ (k : ℕ). set out k x) z) ∙ put-step d b 0 i e f (omega arith) l
 
 -- two more
-pub put-two : (d b : List ℕ) (k j : ℕ) {out : List ℕ} {x y : ℕ} → out ≡ paste d k b j → x ≡ getD b j 0 → y ≡ getD b (j + 1) 0 → k + j + 1 < length d → j + 1 < length b
+pub put-two : (d b : List ℕ) (k j : ℕ) {out : List ℕ} {x y : ℕ} → out ≡ paste d k b j → x ≡ getD b j 0 → y ≡ getD b (j + 1) 0
+    → k + j + 1 < length d → j + 1 < length b
     → set (set out (k + j) x) (k + j + 1) y ≡ paste d k b (j + 2)
 put-two d b k j {out} {x} {y} e f g h l =
     let first : set out (k + j) x ≡ paste d k b (j + 1) = put-step d b k j e f (omega arith) (omega arith) in

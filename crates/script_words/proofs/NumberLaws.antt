@@ -1,14 +1,12 @@
 -- Laws of a number read digit by digit.
 use Prim.Native.Nat.{ℕ, _+_, _-_, _*_, _/_, _≤_, _<_}
-use mathlib.Core.Path.{_≡_, _∙_, refl, sym, ap}
-use mathlib.Core.Bool.{Bool, true, false, cond, _&&_}
+use mathlib.Core.Path.{_≡_, _∙_, refl, ap}
 use mathlib.Core.List.{List, [], _∷_}
 use native.Mathlib.Omega.{arith}
 use borrow.Author.Tests.{le-leb, lt-leb}
-use lib.Dec.{leb}
 use lib.ListN.{length, getD, drop, drop-of-length-le}
-use Rattle.digits.proofs.Scan.{at-next}
-use Rattle.script_words.specs.Number.{highest, decimalStep, numberStep, decimalFrom, numberOf}
+use Rattle.laws.proofs.Bytes.{at-next}
+use Rattle.script_words.specs.Number.{highest, decimalStep, decimalFrom, numberOf}
 use Rattle.script_words.specs.declared.number.Number.{Number}
 
 -- ---- one digit more: it is one, and the number stays below 2 ^ 64

@@ -1,16 +1,12 @@
 -- Laws of words: the place of a byte found step by step, spaces counted step by step, and the rest behind a word as a part of a slice.
 use Prim.Native.Nat.{ℕ, zero, suc, _+_, _-_, _≤_, _<_, min}
-use mathlib.Core.Path.{_≡_, _∙_, refl, sym, ap}
-use mathlib.Core.Bool.{Bool, true, false, cond}
-use mathlib.Core.List.{List, [], _∷_}
-use native.Mathlib.Nat.{min-eq-left}
-use native.Mathlib.Numerals.{add-one}
+use mathlib.Core.Path.{_≡_, _∙_, refl, ap}
+use mathlib.Core.List.{List}
 use native.Mathlib.Omega.{arith}
-use borrow.Author.Tests.{eq-eqb, ne-eqb, leb-true, leb-false}
-use lib.Dec.{eqb, leb}
+use borrow.Author.Tests.{eq-eqb, ne-eqb}
 use lib.ListN.{length, getD, take, drop, drop-of-length-le}
-use lib.Seq.{drop-length}
-use Rattle.digits.proofs.Scan.{at-next, part-rest}
+use Rattle.laws.proofs.Bytes.{at-next, drop-most}
+use Rattle.digits.proofs.Scan.{part-rest}
 use Rattle.script_words.specs.Words.{placeOf, space, spaces, afterWord, wordAt}
 
 -- ---- a loop that looks at one byte after another
@@ -42,17 +38,6 @@ module _ (x : List ℕ) (i n : ℕ) where
   space-ends h = rw drop-of-length-le (omega arith)
 
 -- ---- a word more
-
-drop-most : (k : ℕ) (x : List ℕ) → drop (min k (length x)) x ≡ drop k x
-drop-most k x = go (leb k (length x)) refl
-  where
-    go : (t : Bool) → leb k (length x) ≡ t → drop (min k (length x)) x ≡ drop k x
-    go true h = ap (λ (j : ℕ). drop j x) (min-eq-left (leb-true k (length x) h))
-    go false h =
-        let l : length x < k = leb-false k (length x) h in
-        let m : min k (length x) ≡ length x = omega arith in
-        let n : length x ≤ k = omega arith in
-        ap (λ (j : ℕ). drop j x) m ∙ drop-length x ∙ sym (drop-of-length-le x n)
 
 -- the rest behind the first word and its space, as a part of a slice
 pub after-part : (t : List ℕ) (p k : ℕ) → p ≡ placeOf space t → k ≡ min (p + 1) (length t) → take (length t - k) (drop k t) ≡ afterWord t

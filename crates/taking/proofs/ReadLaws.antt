@@ -25,7 +25,7 @@ use Rattle.form.specs.Walk.{shaped, recordsFrom}
 use Rattle.rules.specs.Reading.{summaryOf, readingOf, firstStart, accessOf}
 use Rattle.rules.specs.declared.Summary.{Summary}
 use Rattle.rules.specs.declared.Reading.the-variants.{Read, Refused}
-use Rattle.digits.proofs.Parts.{both}
+use Rattle.laws.proofs.Tests.{both}
 use Rattle.form.proofs.Walk.{rest-is}
 use Rattle.form.proofs.Count.{count-room}
 use Rattle.form.proofs.Standing.{records-count}

@@ -1,6 +1,6 @@
 -- Giving blocks back: twice is once, what is left is found as before and is sound, and a sound store gives no rate above 100.
 -- Assumes nothing.
-use Prim.Native.Nat.{ℕ, zero, suc, _+_, _-_, _*_, _/_, _^_, _≤_, _<_, zero-le}
+use Prim.Native.Nat.{ℕ, zero, suc, _-_, _*_, _/_, _^_, _≤_, _<_, zero-le}
 use native.Mathlib.Nat.{le-of-suc-le-suc, eq-or-lt-of-le, max-le}
 use native.Mathlib.Omega.{arith}
 use mathlib.Core.Path.{_≡_, _∙_, refl, sym, ap, ap₂}
@@ -16,23 +16,18 @@ use Rattle.rules.specs.Calendar.{slotOf, monthOf as monthOfSecond, monthOfSlot,
 use Rattle.rules.specs.Body.{highestRate}
 use Rattle.rules.specs.Store.{noRate, fromByte, all, blockOf, soundBlock, soundStore, blockCount, blockLength, lawfulByte}
 use Rattle.rules.specs.Machine.{raisedFloor, orZero}
+use Rattle.laws.proofs.Tests.{both}
 use Rattle.calendar.proofs.Laws.{days-range, first-slot-step, slot-month-from, slot-month-until, slot-month-monotone, month-slot}
-use Rattle.pool.specs.Below.{sumBelow, number, tick}
 use Rattle.pool.specs.Blocks.{isFree, monthOf, findOf, freeAfter, releaseOf}
 use Rattle.pool.specs.Held.{InBlock, Held, Sound, heldBelow, heldOf}
 use Rattle.pool.specs.declared.Pool.{Pool}
 use Rattle.pool.specs.declared.Found.{Found}
 use Rattle.pool.specs.declared.Found.the-variants.{At, Nothing}
-use Rattle.pool.proofs.BelowLaws.{and-true, bit-number}
+use Rattle.pool.proofs.BelowLaws.{bit-number, sum-same}
 use Rattle.pool.proofs.Laws.{released-held, released-sound, find-in, find-at, find-none}
 use Rattle.schedule.specs.Stored.{place, rateFound, storedRate}
 
 -- ---- the free blocks
-
-number-same : (k : ℕ) (s t : ℕ → Bool) → ((b : ℕ) → b < k → s b ≡ t b) → number k s ≡ number k t
-unfolding sumBelow
-number-same zero s t h = refl
-number-same (suc k) s t h = ap₂ (λ (x : Bool) (y : ℕ). tick x * 2 ^ k + y) (h k (omega arith)) (number-same k s t (λ b l. h b (omega arith)))
 
 free-released : (p : Pool) (floor b : ℕ) → b < blockCount → isFree (releaseOf p floor) b ≡ freeAfter p floor b
 unfolding releaseOf
@@ -56,7 +51,7 @@ pub release-release : (p : Pool) (f g : ℕ) → f ≤ g → releaseOf (releaseO
 unfolding releaseOf
 release-release p f g l =
     ap (λ (n : ℕ). record { months = p .months; free = n })
-    (number-same blockCount _ (freeAfter p g)
+    (sum-same (λ b. 2 ^ b) blockCount _ (freeAfter p g)
     (λ b h. ap (λ (x : Bool). x || ltb (monthOf p b) g) (free-released p f b h) ∙ or-below (isFree p b) (monthOf p b) f g l))
 
 -- ---- what is found
@@ -121,8 +116,8 @@ module _ (p : Pool) (floor : ℕ) (store : List ℕ) where
           → soundStore (cond x (heldBelow k p) (record { month = monthOf p k; block = k } ∷ heldBelow k p)) store ≡ true
           → soundStore (cond y (heldBelow k (releaseOf p floor)) (record { month = monthOf p k; block = k } ∷ heldBelow k (releaseOf p floor))) store ≡ true
       go true true free rest d = rest d
-      go false true free rest d = rest (and-true block (soundStore (heldBelow k p) store) d .1)
-      go false false free rest d = let w = and-true block (soundStore (heldBelow k p) store) d in ap₂ _&&_ (w .0) (rest (w .1))
+      go false true free rest d = rest (both block (soundStore (heldBelow k p) store) d .1)
+      go false false free rest d = let w = both block (soundStore (heldBelow k p) store) d in ap₂ _&&_ (w .0) (rest (w .1))
       go true false free rest d = absurd (false≢true (free refl))
 
   -- a sound store is sound with what is left
@@ -143,14 +138,14 @@ held-block p store (suc k) b l u e = go (isFree p k) refl (λ h. held-block p st
         → soundStore (cond x (heldBelow k p) (record { month = monthOf p k; block = k } ∷ heldBelow k p)) store ≡ true → block b ≡ true
     go true f rest (inl s) d = absurd (false≢true (sym u ∙ ap (isFree p) s ∙ f))
     go true f rest (inr h) d = rest h d
-    go false f rest (inl s) d = ap block s ∙ and-true (block k) (soundStore (heldBelow k p) store) d .0
-    go false f rest (inr h) d = rest h (and-true (block k) (soundStore (heldBelow k p) store) d .1)
+    go false f rest (inl s) d = ap block s ∙ both (block k) (soundStore (heldBelow k p) store) d .0
+    go false f rest (inr h) d = rest h (both (block k) (soundStore (heldBelow k p) store) d .1)
 
 pub all-at : (test : ℕ → Bool) (l : List ℕ) (i d : ℕ) → test d ≡ true → all test l ≡ true → test (getD l i d) ≡ true
 unfolding all
 all-at test [] i d t e = t
-all-at test (x ∷ l) zero d t e = and-true (test x) (all test l) e .0
-all-at test (x ∷ l) (suc i) d t e = all-at test l i d t (and-true (test x) (all test l) e .1)
+all-at test (x ∷ l) zero d t e = both (test x) (all test l) e .0
+all-at test (x ∷ l) (suc i) d t e = all-at test l i d t (both (test x) (all test l) e .1)
 
 byte-legal : (x : ℕ) → lawfulByte x ≡ true → orZero (fromByte x) ≤ highestRate
 unfolding fromByte
@@ -169,7 +164,7 @@ pub block-legal : (store : List ℕ) (m b i : ℕ) → i < slotsOfMonth m → so
 unfolding soundBlock
 block-legal store m b i l e =
     let days = days-range m .1 in
-    let rates = and-true (all lawfulByte (take (slotsOfMonth m) (blockOf store b))) (all (λ x. eqb x noRate) (drop (slotsOfMonth m) (blockOf store b))) e .0 in
+    let rates = both (all lawfulByte (take (slotsOfMonth m) (blockOf store b))) (all (λ x. eqb x noRate) (drop (slotsOfMonth m) (blockOf store b))) e .0 in
     let same : getD (take (slotsOfMonth m) (blockOf store b)) i noRate ≡ getD store (place b i) noRate =
     getD-take (slotsOfMonth m) (blockOf store b) i noRate l
     ∙ getD-take blockLength (drop (b * blockLength) store) i noRate (omega arith)

@@ -6,9 +6,9 @@ use mathlib.Core.List.{List}
 use lib.Dec.{leb, ltb}
 use Rattle.rules.specs.Calendar.{monthCount}
 use Rattle.rules.specs.Store.{soundRequests, soundClock, soundStore}
+use Rattle.laws.proofs.Tests.{both}
 use Rattle.plant.specs.Plant.{settingsOf, validPlant}
 use Rattle.pool.specs.Held.{heldOf, soundPool}
-use Rattle.pool.proofs.BelowLaws.{and-true}
 use Rattle.polling.specs.Requests.{requestsOf}
 use Rattle.unit.specs.Values.{clockOf, isSound}
 use Rattle.unit.specs.declared.Unit.{Unit}
@@ -29,11 +29,11 @@ sound-parts u e =
     let p = soundPool (u .pool) (u .floor) in
     let q = soundRequests (settingsOf (u .plant)) (requestsOf (u .requests)) in
     let k = soundClock (clockOf (u .clock)) in
-    let a = and-true (v && f && p && q && k) (leb (u .command) (6000 * u .plant .settings .minutes)) (sym (sound-is u) ∙ e) in
-    let b = and-true (v && f && p && q) k (a .0) in
-    let d = and-true (v && f && p) q (b .0) in
-    let g = and-true (v && f) p (d .0) in
-    let h = and-true v f (g .0) in
+    let a = both (v && f && p && q && k) (leb (u .command) (6000 * u .plant .settings .minutes)) (sym (sound-is u) ∙ e) in
+    let b = both (v && f && p && q) k (a .0) in
+    let d = both (v && f && p) q (b .0) in
+    let g = both (v && f) p (d .0) in
+    let h = both v f (g .0) in
     record { plant = h .0; floor = h .1; pool = g .1; requests = d .1; clock = b .1; command = a .1 }
 
 pub parts-sound : (u : Unit) → SoundParts u → isSound u ≡ true

@@ -14,8 +14,8 @@ use Rattle.rules.specs.Store.{storeLength, soundStore}
 use Rattle.rules.specs.Table.{firstOf}
 use Rattle.rules.specs.declared.Answer.{Answer}
 use Rattle.rules.specs.declared.Cause.{Cause}
+use Rattle.laws.proofs.Tests.{both}
 use Rattle.pool.specs.Held.{heldOf}
-use Rattle.pool.proofs.BelowLaws.{and-true}
 use Rattle.schedule.specs.Stored.{storeHolds}
 use Rattle.ramp.proofs.Laws.{after-no-second, after-over}
 use Rattle.unit.specs.Values.{isSound}
@@ -71,7 +71,7 @@ module _ (u : Unit) (store : List ℕ) (t : ℕ) where
       unfolding tickOf firstOf
       tick-done h =
           rw (eq-eqb (length store) storeLength long, lent-row u store true long good, lt-ltb t endOfTime h)
-          (ap (λ (v : Unit). record { unit = v; answer = Answer.Accepted }) (ticked-jump u (and-true (isSound u) (storeHolds (u .pool) store) good .0) store t))
+          (ap (λ (v : Unit). record { unit = v; answer = Answer.Accepted }) (ticked-jump u (both (isSound u) (storeHolds (u .pool) store) good .0) store t))
 
 -- ---- ticks that are accepted
 
@@ -99,5 +99,5 @@ accepts u store t e = go (eqb (length store) storeLength) refl (isSound u && sou
     go true p false q z r f = refused Cause.Unsound f
     go true p true q false r f = refused Cause.Range f
     go true p true q true r f =
-        let w = and-true (isSound u) (soundStore (heldOf (u .pool)) store) q in
+        let w = both (isSound u) (soundStore (heldOf (u .pool)) store) q in
         record { long = eqb-true (length store) storeLength p; good = record { unit = w .0; lent = w .1 }; below = ltb-true t endOfTime r }

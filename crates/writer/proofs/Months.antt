@@ -74,7 +74,8 @@ pub record Going (before : List ℕ) (at : ℕ) (schedule plant : List ℕ) (fir
   pub same : length out ≡ length before
   pub full : firstSlot month + length rates ≡ from + firstSlot end
   pub enough : place + (55 * (end - month) + (length rates - from)) ≤ length out
-  pub rest : placed out place (monthsBytes schedule plant (end - month) month (drop from rates)) ≡ placed before at (monthsBytes schedule plant (end - first) first rates)
+  pub rest : placed out place (monthsBytes schedule plant (end - month) month (drop from rates))
+      ≡ placed before at (monthsBytes schedule plant (end - first) first rates)
 
 module _ {before : List ℕ} {at : ℕ} {schedule plant : List ℕ} {first end : ℕ} {rates : List ℕ}
     (h : MonthsRoom (length before) at schedule plant first end rates) where

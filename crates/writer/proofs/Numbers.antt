@@ -1,14 +1,14 @@
 -- Laws of a number that is put into a buffer as digits, the last one first.
 -- Assumes nothing.
-use Prim.Native.Nat.{ℕ, zero, suc, _+_, _-_, _/_, _%_, _≤_, _<_}
+use Prim.Native.Nat.{ℕ, suc, _+_, _-_, _/_, _%_, _≤_, _<_}
 use mathlib.Core.Path.{_≡_, _∙_, refl, sym}
 use mathlib.Core.Logic.{_≢_}
 use mathlib.Core.List.{List, [], _∷_}
-use native.Mathlib.Numerals.{add-one}
 use native.Mathlib.Omega.{arith}
-use lib.ListN.{length, set, length-append}
+use lib.ListN.{length, set}
 use lib.Seq.{sets, set-comm}
 use Rattle.rules.specs.Digits.{decimal}
+use Rattle.laws.proofs.Bytes.{length-decimal}
 use Rattle.digits.specs.Placed.{placed}
 use Rattle.digits.proofs.Placing.{sets-append}
 
@@ -18,11 +18,6 @@ sets-set [] l i j x h = refl
 sets-set (y ∷ a) l i j x h =
     let other : j ≢ i = λ e. omega arith in
     rw (set-comm l j i x y other) (sets-set a (set l i y) (suc i) j x (omega arith))
-
-pub length-decimal : (k n : ℕ) → length (decimal k n) ≡ k
-unfolding decimal
-length-decimal zero n = refl
-length-decimal (suc k) n = length-append (decimal k (n / 10)) (n % 10 ∷ []) ∙ rw (length-decimal k (n / 10)) (add-one k)
 
 -- the last of k + 1 digits is put, and then the others
 last-digit : (l : List ℕ) (at k n : ℕ) → placed l at (decimal (suc k) n) ≡ placed (set l (at + k) (n % 10)) at (decimal k (n / 10))

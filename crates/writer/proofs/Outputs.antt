@@ -10,6 +10,7 @@ use Rattle.rules.specs.Calendar.{firstSlot}
 use Rattle.rules.specs.Body.{schedule, encodeBody, encodeRecord, encodeRecords}
 use Rattle.rules.specs.Writer.{Fields, Output, fitting, updateRecord, writeBody}
 use Rattle.rules.specs.declared.Cause.{Cause}
+use Rattle.laws.proofs.Bytes.{length-decimal}
 use Rattle.digits.specs.Placed.{placed}
 use Rattle.digits.proofs.Placing.{placed-next}
 use Rattle.plan.specs.Fields.{fieldsOf, monthFields}
@@ -17,7 +18,6 @@ use Rattle.writer.specs.Bodies.{monthsBody, updateBody}
 use Rattle.plan.specs.Plan.{planOf}
 use Rattle.plan.specs.Given.{MonthsGiven, UpdateGiven}
 use Rattle.plan.specs.declared.Plan.the-variants.{Months, Update, Refused}
-use Rattle.writer.proofs.Numbers.{length-decimal}
 use Rattle.writer.proofs.Records.{update-length}
 use Rattle.writer.proofs.Months.{monthsBytes, months-length, same-months, count-months}
 use Rattle.plan.proofs.Plans.{output-is}
@@ -59,9 +59,11 @@ count-placed l b n ea ec = let d = length-decimal 6 n in ec ∙ placed-next l (d
 
 pub months-placed : (l ident plant : List ℕ) (k first : ℕ) (rates : List ℕ) {a c : List ℕ} → a ≡ placed l 0 (decimal 6 k)
     → c ≡ placed a 6 (monthsBytes ident plant k first rates) → c ≡ placed l 0 (monthsBody ident plant k first rates)
-months-placed l ident plant k first rates ea ec = count-placed l (monthsBytes ident plant k first rates) k ea ec ∙ ap (placed l 0) (months-body ident plant k first rates)
+months-placed l ident plant k first rates ea ec =
+    count-placed l (monthsBytes ident plant k first rates) k ea ec ∙ ap (placed l 0) (months-body ident plant k first rates)
 
-pub update-placed : (l : List ℕ) (w : Fields) {a c : List ℕ} → a ≡ placed l 0 (decimal 6 1) → c ≡ placed a 6 (encodeRecord (updateRecord w)) → c ≡ placed l 0 (updateBody w)
+pub update-placed : (l : List ℕ) (w : Fields) {a c : List ℕ} → a ≡ placed l 0 (decimal 6 1)
+    → c ≡ placed a 6 (encodeRecord (updateRecord w)) → c ≡ placed l 0 (updateBody w)
 update-placed l w ea ec = count-placed l (encodeRecord (updateRecord w)) 1 ea ec ∙ ap (placed l 0) (update-body w)
 
 -- ---- the output of a plan

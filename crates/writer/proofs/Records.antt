@@ -9,6 +9,7 @@ use Rattle.rules.specs.Digits.{decimal}
 use Rattle.rules.specs.Body.{encodeRecord}
 use Rattle.rules.specs.File.{checksumOf}
 use Rattle.rules.specs.Writer.{monthStart, monthRecord, updateRecord}
+use Rattle.laws.proofs.Bytes.{length-decimal}
 use Rattle.digits.specs.Placed.{placed}
 use Rattle.digits.proofs.Placing.{placed-next, placed-one}
 use Rattle.layout.specs.Records.{checksumFor}
@@ -16,7 +17,6 @@ use Rattle.layout.proofs.Counts.{checksum-is}
 use Rattle.plan.specs.Fields.{fieldsOf, monthFields}
 use Rattle.writer.specs.Bodies.{head}
 use Rattle.writer.specs.Room.{MonthRoom, UpdateRoom}
-use Rattle.writer.proofs.Numbers.{length-decimal}
 
 -- ---- a month's start
 

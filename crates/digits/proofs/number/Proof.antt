@@ -5,13 +5,16 @@ use denote.Ref.{now}
 use lib.ListN.{length, drop}
 use borrow.Author.Tests.{le-leb, lt-leb}
 use Rattle.rules.specs.Digits.{allAtMost, valueFrom}
+use Rattle.laws.proofs.Bytes.{more-digits}
 use Rattle.digits.specs.Decimal.{decimalOf}
-use Rattle.digits.proofs.Scan.{digit-step, digit-stop, digit-end, value-step, value-end, more-digits, fits-digits}
+use Rattle.digits.proofs.Scan.{digit-step, digit-stop, digit-end, value-step, value-end, fits-digits}
 use Rattle.digits.proofs.number.Statement.{statement}
 use Rattle.digits.proofs.number.Tie as tie
 
 abbrev Inv-loop : tie.InvT-loop
-Inv-loop s value₀ i₀ value i = (i ≤ length s) × (length s ≤ 14) × (value < 10 ^ i) × (allAtMost 9 s ≡ allAtMost 9 (drop i s)) × (valueFrom 0 s ≡ valueFrom value (drop i s))
+Inv-loop s value₀ i₀ value i =
+    (i ≤ length s) × (length s ≤ 14) × (value < 10 ^ i) × (allAtMost 9 s ≡ allAtMost 9 (drop i s))
+    × (valueFrom 0 s ≡ valueFrom value (drop i s))
 
 abbrev μ-loop : tie.MeasureT-loop
 μ-loop s value₀ i₀ value i = length s - i

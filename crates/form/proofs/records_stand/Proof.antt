@@ -5,6 +5,7 @@ use mathlib.Core.Path.{_≡_, _∙_, sym, ap}
 use borrow.Author.Tests.{not-true, not-false}
 use denote.Ref.{now}
 use Rattle.rules.specs.Body.{countOf, sizeOf}
+use Rattle.rules.specs.declared.Format.{Format}
 use Rattle.form.specs.Walk.{shaped, Whole}
 use Rattle.form.proofs.Walk.{whole, within, sized, size-here, shape-end, shape-step, shape-stop}
 use Rattle.form.proofs.records_stand.Statement.{statement}
@@ -51,11 +52,14 @@ returns c =
 abbrev entry : tie.Else1 Inv-loop μ-loop → tie.At-loop Inv-loop μ-loop
 entry c = c .before .before .before .before
 
-stood : (c : tie.Else1 Inv-loop μ-loop) → Whole (entry c .before .before .before .before .args .format) (entry c .loop .t .now)
+abbrev format-of : tie.Else1 Inv-loop μ-loop → Format
+format-of c = entry c .before .before .before .before .args .format
+
+stood : (c : tie.Else1 Inv-loop μ-loop) → Whole (format-of c) (entry c .loop .t .now)
 stood c = whole _ _ (sym (c .before .record-stands .ensures) ∙ not-false _ (c .if1 .left))
 
 size : (c : tie.Else1 Inv-loop μ-loop)
-    → 53 + c .before .before .rate-count .result + entry c .before .before .tail-digits .result ≡ sizeOf (entry c .before .before .before .before .args .format) (entry c .loop .t .now)
+    → 53 + c .before .before .rate-count .result + entry c .before .before .tail-digits .result ≡ sizeOf (format-of c) (entry c .loop .t .now)
 size c = size-here _ _ (c .before .before .rate-count .ensures .0) (entry c .before .before .tail-digits .ensures .0) (stood c)
 
 sub-t : tie.Need-sub-t Inv-loop μ-loop

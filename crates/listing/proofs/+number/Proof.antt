@@ -78,7 +78,8 @@ number-put-requires-2 : (t : ℕ) → number-lts.Need-put-requires-2 (
 number-put-requires-2 t c κs =
     let n = c .before .before .args .n in
     let line = c .before .before .args .line in
-    let e : c .number .result .length ≡ line .length + length (numeral (n / 10)) = ap (λ (l : Line). l .length) (c .number .ensures) ∙ puts-length line (numeral (n / 10)) in
+    let e : c .number .result .length ≡ line .length + length (numeral (n / 10)) =
+    ap (λ (l : Line). l .length) (c .number .ensures) ∙ puts-length line (numeral (n / 10)) in
     omega (arith, e, digits-more n (c .before .if1 .left) (omega arith), c .before .before .pre .1)
 
 number-returns-2 : (t : ℕ) → number-lts.Need-returns-2 (

@@ -17,7 +17,8 @@ number-requires c κs = search needs
 put-requires : tie.Need-put-requires
 put-requires c κs =
     let a = c .before .args in
-    let e : c .number .result .length ≡ a .line .length + length (numeral (a .n)) = ap (λ (l : Line). l .length) (c .number .ensures) ∙ puts-length (a .line) (numeral (a .n)) in
+    let e : c .number .result .length ≡ a .line .length + length (numeral (a .n)) =
+    ap (λ (l : Line). l .length) (c .number .ensures) ∙ puts-length (a .line) (numeral (a .n)) in
     omega (arith, e, c .before .pre)
 
 returns : tie.Need-returns

@@ -48,11 +48,13 @@ returns : tie.Need-returns
 unfolding line
 returns c =
     let r = c .before .read in
-    let x = now (c .before .before .before .before .before .before .before .args .input) in
-    let start = c .before .before .before .before .body-start in
-    let end = c .before .before .before .before .before .name-end in
+    let split = c .before .before .before .before in
+    let x = now (split .before .before .before .args .input) in
+    let start = split .body-start in
+    let end = split .before .name-end in
+    let behind = start .ensures ∙ ap (λ (i : ℕ). min (i + 1) (length x)) (end .ensures) in
     let name : take (end .result) x ≡ namePart x = rw (end .ensures) (sym (name-before x)) in
-    let body : take (length x - start .result) (drop (start .result) x) ≡ bodyPart x = body-part x (start .result) (start .ensures ∙ ap (λ (i : ℕ). min (i + 1) (length x)) (end .ensures)) in
+    let body : take (length x - start .result) (drop (start .result) x) ≡ bodyPart x = body-part x (start .result) behind in
     c .reading-line .ensures
     ∙ ap (λ (q : Reading). lineIn (textOf q)) (r .ensures ∙ ap₂ (λ (n b : List ℕ). readingOf (readFile none n b)) name body)
     ∙ ap lineIn (text-read (readFile none (namePart x) (bodyPart x)))

@@ -23,8 +23,10 @@ field-requires-3 c κs =
     let s = c .before .before in
     let long = ap (λ (l : Line). l .length) (c .before .field .ensures) ∙ puts-length _ (fieldText (s .args .format) 32) in
     let longer = ap (λ (l : Line). l .length) (c .field2 .ensures) ∙ puts-length _ (fieldText (s .args .records) 32) in
-    omega
-    (arith, long, longer, length-field (s .args .format) 32, length-field (s .args .records) 32, numeral-short 17 2 _ refl (s .pre .0), numeral-short 18 1 _ refl (s .pre .1), numeral-short 15 4 _ refl (s .pre .2))
+    let format = numeral-short 17 2 _ refl (s .pre .0) in
+    let records = numeral-short 18 1 _ refl (s .pre .1) in
+    let rates = numeral-short 15 4 _ refl (s .pre .2) in
+    omega (arith, long, longer, length-field (s .args .format) 32, length-field (s .args .records) 32, format, records, rates)
 
 returns : tie.Need-returns
 unfolding lineIn

@@ -11,8 +11,12 @@ use borrow.Author.Needs.{needs}
 use Rattle.name.proofs.is_date.Statement.{statement}
 use Rattle.name.proofs.is_date.Tie as tie
 
-moment-read : (c : tie.After-read-moment) → c .read-moment .result ≡ momentOf (moment (fromAscii (now (c .before .before .before .before .before .before .args .ascii))))
-moment-read c = c .read-moment .ensures ∙ ap (λ (w : List ℕ). momentOf (moment w)) (c .before .before .before .values .ensures)
+abbrev values-read : tie.After-read-moment → tie.After-values
+values-read c = c .before .before .before
+
+moment-read : (c : tie.After-read-moment)
+    → c .read-moment .result ≡ momentOf (moment (fromAscii (now (values-read c .before .before .before .args .ascii))))
+moment-read c = c .read-moment .ensures ∙ ap (λ (w : List ℕ). momentOf (moment w)) (values-read c .values .ensures)
 
 slice-aggregate-values : tie.Need-slice-aggregate-values
 slice-aggregate-values c = search needs

@@ -40,11 +40,9 @@ fits-requires-4 c κs = search needs
 returns-3 : tie.Need-returns-3
 returns-3 c =
     let n = c .before .before .before .before in
-    rw (
-      segment-any (now (n .before .before .before .before .before .args .segment)) (n .before .before .before .if1 .left) (all-digits (n .before)),
-      ← n .number .ensures,
-    )
-    (cc)
+    let digits = n .before in
+    let four = digits .before .before in
+    rw (segment-any (now (four .before .before .args .segment)) (four .if1 .left) (all-digits digits), ← n .number .ensures) (cc)
 
 pub is-segment-spec : {M : Type 1} → statement M
 is-segment-spec =

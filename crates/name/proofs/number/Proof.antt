@@ -7,14 +7,16 @@ use native.Mathlib.Omega.{arith}
 use lib.ListN.{length, drop}
 use denote.Ref.{now}
 use borrow.Author.Needs.{needs}
-use Rattle.digits.proofs.Scan.{more-digits}
 use Rattle.rules.specs.Digits.{allAscii, fromAscii, valueFrom}
+use Rattle.laws.proofs.Bytes.{more-digits}
 use Rattle.name.proofs.Ascii.{number-step, number-end, ascii-next, four-digits}
 use Rattle.name.proofs.number.Statement.{statement}
 use Rattle.name.proofs.number.Tie as tie
 
 abbrev Inv-loop : tie.InvT-loop
-Inv-loop ascii value₀ i₀ value i = (i ≤ length ascii) × (value < 10 ^ i) × (allAscii (drop i ascii) ≡ true) × (valueFrom 0 (fromAscii ascii) ≡ valueFrom value (fromAscii (drop i ascii)))
+Inv-loop ascii value₀ i₀ value i =
+    (i ≤ length ascii) × (value < 10 ^ i) × (allAscii (drop i ascii) ≡ true)
+    × (valueFrom 0 (fromAscii ascii) ≡ valueFrom value (fromAscii (drop i ascii)))
 
 abbrev μ-loop : tie.MeasureT-loop
 μ-loop ascii value₀ i₀ value i = length ascii - i
@@ -38,7 +40,8 @@ add-value : tie.Need-add-value Inv-loop μ-loop
 add-value c =
     let l = c .before .before .before .loop in
     let ascii = now (c .before .before .before .before .before .args .ascii) in
-    omega (arith, c .digit .ensures, ascii-next ascii (l .i) (c .before .before .loop-test .taken) (l .inv .2) .0, four-digits (l .value) (l .i) (l .inv .1) (omega arith))
+    let digit = ascii-next ascii (l .i) (c .before .before .loop-test .taken) (l .inv .2) .0 in
+    omega (arith, c .digit .ensures, digit, four-digits (l .value) (l .i) (l .inv .1) (omega arith))
 
 add-i : tie.Need-add-i Inv-loop μ-loop
 add-i c = omega arith

@@ -5,17 +5,19 @@ use native.Mathlib.Omega.{arith}
 use lib.ListN.{length}
 use denote.Ref.{now}
 use Rattle.rules.specs.Name.{lawfulName, nameFields}
-use Rattle.name.proofs.Laws.{shaped, part-length, lawful-is}
+use Rattle.laws.proofs.Bytes.{part-length}
+use Rattle.laws.proofs.Facts.{name-shape}
+use Rattle.name.proofs.Laws.{lawful-is}
 use borrow.Author.Needs.{needs}
 use Rattle.name.proofs.read_as.Statement.{statement}
 use Rattle.name.proofs.read_as.Tie as tie
 
 long : (c : tie.Start) → length (now (c .args .name)) ≡ 55
-long c = shaped (now (c .args .name)) (c .pre) .long
+long c = name-shape (now (c .args .name)) (c .pre) .long
 
-lawful : (c : tie.After-is-date)
-    → lawfulName (nameFields (c .before .before .before .before .before .before .args .format) (now (c .before .before .before .before .before .before .args .name)))
-    ≡ (c .before .before .fits2 .result && c .is-date .result)
+lawful : (c : tie.After-is-date) →
+    let first = c .before .before .before .before .before .before in
+    lawfulName (nameFields (first .args .format) (now (first .args .name))) ≡ (c .before .before .fits2 .result && c .is-date .result)
 lawful c =
     let first = c .before .before .before .before .before .before in
     let f = c .before .before in
@@ -32,7 +34,10 @@ part-number-end : tie.Need-part-number-end
 part-number-end c = omega (arith, long (c .before))
 
 number-requires : tie.Need-number-requires
-number-requires c κs = let s = now (c .before .before .args .name) in (omega (arith, part-length s 4 4 (omega (arith, long (c .before .before)))), shaped s (c .before .before .pre) .segment)
+number-requires c κs =
+    let first = c .before .before in
+    let s = now (first .args .name) in
+    (omega (arith, part-length s 4 4 (omega (arith, long first))), name-shape s (first .pre) .segment)
 
 fits-requires : tie.Need-fits-requires
 fits-requires c κs = search needs

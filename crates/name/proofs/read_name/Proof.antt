@@ -9,8 +9,10 @@ use denote.Ref.{now}
 use borrow.Author.Tests.{not-true, not-false}
 use Rattle.rules.specs.Name.{nameShape, formatOf, parseName, nameWith}
 use Rattle.rules.specs.declared.Format.{Format}
+use Rattle.laws.proofs.Bytes.{part-length}
+use Rattle.laws.proofs.Facts.{name-shape}
 use Rattle.name.specs.Read.{nameRead}
-use Rattle.name.proofs.Laws.{shaped, unshaped, parse-as, no-format, part-length}
+use Rattle.name.proofs.Laws.{unshaped, parse-as, no-format}
 use borrow.Author.Needs.{needs}
 use Rattle.name.proofs.read_name.Statement.{statement}
 use Rattle.name.proofs.read_name.Tie as tie
@@ -39,10 +41,12 @@ part-number-start : tie.Need-part-number-start
 part-number-start c = search needs
 
 part-number-end : tie.Need-part-number-end
-part-number-end c = omega (arith, shaped _ (shape c) .long)
+part-number-end c = omega (arith, name-shape _ (shape c) .long)
 
 number-requires : tie.Need-number-requires
-number-requires c κs = let t = shaped (text (c .before)) (shape (c .before)) in (omega (arith, part-length (text (c .before)) 0 3 (omega (arith, t .long))), t .format)
+number-requires c κs =
+    let t = name-shape (text (c .before)) (shape (c .before)) in
+    (omega (arith, part-length (text (c .before)) 0 3 (omega (arith, t .long))), t .format)
 
 read-as-requires : tie.Need-read-as-requires
 read-as-requires c κs = shape (c .before .before .before)

@@ -36,9 +36,11 @@ loop-less c = omega arith
 
 loop-again : tie.Need-loop-again Inv-loop μ-loop
 loop-again c =
-    let l = c .before .before .before .loop in
-    let ascii = now (c .before .before .before .before .before .before .args .ascii) in
-    (omega arith, simp length-set (l .inv .1), rw (c .digit .ensures) (values-step (l .to) ascii (l .i) (l .inv .1) (l .inv .2) (c .before .before .loop-test .taken)))
+    let entered = c .before .before in
+    let l = entered .before .loop in
+    let ascii = now (entered .before .before .before .before .args .ascii) in
+    let step = values-step (l .to) ascii (l .i) (l .inv .1) (l .inv .2) (entered .loop-test .taken) in
+    (omega arith, simp length-set (l .inv .1), rw (c .digit .ensures) step)
 
 same-length : tie.Need-same-length Inv-loop μ-loop
 same-length c = c .before .loop .inv .1 ∙ sym (c .before .before .before .before .pre)

@@ -63,22 +63,30 @@ plan-months-requires-2 c κs = search needs
 returns-4 : tie.Need-returns-4
 returns-4 c =
     let k = c .before in
-    let e = k .before .before .before in
-    c .plan-months2 .ensures ∙ rw (k .record-count2 .ensures) (plan-monthly _ (is-plant (e .before)) (fits-flag e) (k .before .before .if3 .left) (k .before .if4 .taken))
+    let monthly = k .before in
+    let not-yearly = monthly .before in
+    let e = not-yearly .before in
+    c .plan-months2 .ensures
+    ∙ rw (k .record-count2 .ensures) (plan-monthly _ (is-plant (e .before)) (fits-flag e) (not-yearly .if3 .left) (monthly .if4 .taken))
 
 plan-update-requires : tie.Need-plan-update-requires
 plan-update-requires c κs = search needs
 
 returns-5 : tie.Need-returns-5
 returns-5 c =
-    let e = c .before .before .before .before in
+    let update = c .before in
+    let not-monthly = update .before in
+    let not-yearly = not-monthly .before in
+    let e = not-yearly .before in
     c .plan-update .ensures
-    ∙ plan-updating _ (is-plant (e .before)) (fits-flag e) (c .before .before .before .if3 .left) (c .before .before .if4 .left) (c .before .if5 .taken)
+    ∙ plan-updating _ (is-plant (e .before)) (fits-flag e) (not-yearly .if3 .left) (not-monthly .if4 .left) (update .if5 .taken)
 
 returns-6 : tie.Need-returns-6
 returns-6 c =
-    let e = c .before .before .before in
-    plan-name _ (is-plant (e .before)) (fits-flag e) (c .before .before .if3 .left) (c .before .if4 .left) (c .if5 .left)
+    let not-monthly = c .before in
+    let not-yearly = not-monthly .before in
+    let e = not-yearly .before in
+    plan-name _ (is-plant (e .before)) (fits-flag e) (not-yearly .if3 .left) (not-monthly .if4 .left) (c .if5 .left)
 
 pub decide-spec : {M : Type 1} → statement M
 decide-spec =

@@ -31,8 +31,14 @@ formed : (c : tie.Else1) → let a = c .before .before .before .before .before .
     (digits 10 (now (a .schedule)) && digits 12 (now (a .start))) ≡ true
 formed c = form-tested (c .before) true (not-false (flags (c .before)) (c .if1 .left))
 
+-- where the call began
+abbrev before-month : tie.After-first → tie.Start
+before-month c =
+    let tested = c .before .before .before in
+    tested .before .before .before .before .before .before
+
 -- the month that the start begins
-begun : (c : tie.After-first) → Month (c .first .given .0 .0) ≡ monthBegun (now (c .before .before .before .before .before .before .before .before .before .args .start))
+begun : (c : tie.After-first) → Month (c .first .given .0 .0) ≡ monthBegun (now (before-month c .args .start))
 begun c = sym (c .first .given .1) ∙ c .before .before .month-begun .ensures
 
 -- the places before the test of the length
@@ -79,8 +85,7 @@ returns-2 c = months-unbegun _ _ _ _ (formed (c .before .before .before)) (sym (
 
 add-end : tie.Need-add-end
 add-end c =
-    let s = c .before .before .before .before .before .before .before .before .before .before in
-    omega (arith, begun-facts _ _ (begun (c .before)) .few, s .pre)
+    omega (arith, begun-facts _ _ (begun (c .before)) .few, before-month (c .before) .pre)
 
 first-slot-requires : tie.Need-first-slot-requires
 first-slot-requires c κs = search needs

@@ -6,6 +6,7 @@ use mathlib.Core.Bool.{Bool, true, false, _&&_}
 use borrow.Author.Tests.{not-true, not-false}
 use lib.Dec.{leb}
 use lib.ListN.{length}
+use Rattle.layout.specs.Dates.{updateHolds}
 use Rattle.plan.proofs.Plans.{formFits, update-form, update-few, update-date, update-rate, update-plan}
 use borrow.Author.Needs.{needs}
 use Rattle.plan.proofs.plan_update.Statement.{statement}
@@ -13,7 +14,9 @@ use Rattle.plan.proofs.plan_update.Tie as tie
 
 -- the start, and the first test
 abbrev start : tie.After-is-digits3 → tie.Start
-start c = c .before .before .before .before .before .before .before .before
+start c =
+    let counted = c .before .before .before in
+    counted .before .before .before .before .before
 
 abbrev flags : tie.After-is-digits3 → Bool
 flags c =
@@ -23,12 +26,21 @@ flags c =
 form-tested : (c : tie.After-is-digits3) (t : Bool) → flags c ≡ t
     → let a = start c .args in
     formFits (now (a .schedule)) (now (a .start)) (now (a .next)) (now (a .rates)) ≡ t
-form-tested c t e = cc (c .is-digits3 .ensures, c .before .is-digits2 .ensures, c .before .before .is-digits .ensures, c .before .before .before .most-rates .ensures)
+form-tested c t e =
+    let schedule = c .before in
+    let next = schedule .before in
+    cc (c .is-digits3 .ensures, schedule .is-digits2 .ensures, next .is-digits .ensures, next .before .most-rates .ensures)
 
 formed : (c : tie.Else1)
     → let a = start (c .before) .args in
     formFits (now (a .schedule)) (now (a .start)) (now (a .next)) (now (a .rates)) ≡ true
 formed c = form-tested (c .before) true (not-false (flags (c .before)) (c .if1 .left))
+
+-- the second
+dated : (c : tie.Else2)
+    → let a = start (c .before .before .before) .args in
+    updateHolds (now (a .start)) (length (now (a .rates))) (now (a .next)) ≡ true
+dated c = sym (c .before .is-update .ensures) ∙ not-false _ (c .if2 .left)
 
 most-rates-requires : tie.Need-most-rates-requires
 most-rates-requires c κs = search needs
@@ -65,13 +77,13 @@ all-at-most-requires c κs = search needs
 returns-3 : tie.Need-returns-3
 returns-3 c =
     let d = c .before .before in
-    update-rate _ _ _ _ (formed (d .before .before)) (sym (d .before .is-update .ensures) ∙ not-false _ (d .if2 .left))
+    update-rate _ _ _ _ (formed (d .before .before)) (dated d)
     (sym (c .before .all-at-most .ensures) ∙ not-true _ (c .if3 .taken))
 
 returns-4 : tie.Need-returns-4
 returns-4 c =
     let d = c .before .before in
-    update-plan _ _ _ _ (formed (d .before .before)) (sym (d .before .is-update .ensures) ∙ not-false _ (d .if2 .left))
+    update-plan _ _ _ _ (formed (d .before .before)) (dated d)
     (sym (c .before .all-at-most .ensures) ∙ not-false _ (c .if3 .left))
 
 pub plan-update-spec : {M : Type 1} → statement M

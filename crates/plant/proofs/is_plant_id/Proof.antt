@@ -32,8 +32,9 @@ weighted-sum-requires c κs = simp (length-take-le 25 (now (c .before .before .b
 returns-2 : tie.Need-returns-2
 unfolding plantId checkDigit
 returns-2 c =
-    let long : length (now (c .before .before .before .before .before .before .args .id)) ≡ 26 = omega arith in
-    rw (eq-eqb _ 26 long, c .before .before .before .all-at-most .ensures, c .weighted-sum .ensures) refl
+    let digits = c .before .before .before in
+    let long : length (now (digits .before .before .before .args .id)) ≡ 26 = omega arith in
+    rw (eq-eqb _ 26 long, digits .all-at-most .ensures, c .weighted-sum .ensures) refl
 
 pub is-plant-id-spec : {M : Type 1} → statement M
 is-plant-id-spec =

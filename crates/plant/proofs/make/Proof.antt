@@ -30,10 +30,13 @@ narrowed-requires c κs = search needs
 
 returns : tie.Need-returns
 returns c =
-    let s = c .before .before .before .before .before .before .before .before .before in
-    let v = facts s in
-    rw (c .narrowed .ensures ∙ kept-whole _ (in-range-kept _ (v .settings)))
-    (cc (placed-all (replicate 26 0) (now (s .args .id)) (sym (v .id .long)), placed-all (replicate 12 0) (now (s .args .mac)) (sym (v .mac .long))))
+    let mac-put = c .before .before in
+    let id-put = mac-put .before .before .before in
+    let start = id-put .before .before .before .before in
+    let v = facts start in
+    let id = placed-all (replicate 26 0) (now (start .args .id)) (sym (v .id .long)) in
+    let mac = placed-all (replicate 12 0) (now (start .args .mac)) (sym (v .mac .long)) in
+    rw (c .narrowed .ensures ∙ kept-whole _ (in-range-kept _ (v .settings))) (cc (id, mac))
 
 pub make-spec : {M : Type 1} → statement M
 make-spec =

@@ -16,7 +16,10 @@ use Rattle.records.proofs.copy_rates.Tie as tie
 scheduled : (c : tie.Else1) → isSchedule (c .before .before .before .before .args .format) ≡ true
 scheduled c = sym (c .before .is-schedule .ensures) ∙ not-false _ (c .if1 .left)
 
-stood : (c : tie.Else2) → standing (c .before .before .before .before .before .before .args .format) (now (c .before .before .before .before .before .before .args .body)) ≡ true
+abbrev start : tie.Else2 → tie.Start
+start c = c .before .before .before .before .before .before
+
+stood : (c : tie.Else2) → standing (start c .args .format) (now (start c .args .body)) ≡ true
 stood c = sym (c .before .stands .ensures) ∙ not-false _ (c .if2 .left)
 
 is-schedule-requires : tie.Need-is-schedule-requires
@@ -44,15 +47,20 @@ fixed-bytes-requires : tie.Need-fixed-bytes-requires
 fixed-bytes-requires c κs = search needs
 
 sub-length : tie.Need-sub-length
-sub-length c = let e = c .before .before in fixed-inside _ _ (now (e .before .before .before .before .before .before .args .out)) (scheduled (e .before .before)) (stood e) _ (c .fixed-bytes .ensures .0)
+sub-length c =
+    let e = c .before .before in
+    fixed-inside _ _ (now (start e .args .out)) (scheduled (e .before .before)) (stood e) _ (c .fixed-bytes .ensures .0)
 
 returns-3 : tie.Need-returns-3
-returns-3 c = let e = c .before .before .before in copy-short _ _ _ (scheduled (e .before .before)) (stood e) _ (c .before .fixed-bytes .ensures .0) (c .if3 .taken)
+returns-3 c =
+    let e = c .before .before .before in
+    copy-short _ _ _ (scheduled (e .before .before)) (stood e) _ (c .before .fixed-bytes .ensures .0) (c .if3 .taken)
 
 put-rates-requires : tie.Need-put-rates-requires
 put-rates-requires c κs =
-    let e = c .before .before .before .before in
-    copy-room _ _ (now (e .before .before .before .before .before .before .args .out)) (scheduled (e .before .before)) (stood e) _ (c .before .before .fixed-bytes .ensures .0) (c .before .if3 .left)
+    let l = c .before in
+    let e = l .before .before .before in
+    copy-room _ _ (now (start e .args .out)) (scheduled (e .before .before)) (stood e) _ (l .before .fixed-bytes .ensures .0) (l .if3 .left)
 
 same-length : tie.Need-same-length
 same-length c = search needs

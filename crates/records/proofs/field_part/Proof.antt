@@ -28,7 +28,9 @@ part-result-end : tie.Need-part-result-end
 part-result-end c = search needs
 
 -- the record that was located
-located : (c : tie.After-places) → At (c .places .given .0 .0) ≡ locate (c .before .before .before .before .args .format) (now (c .before .before .before .before .args .body)) (c .before .before .before .before .args .index)
+located : (c : tie.After-places)
+    → let a = c .before .before .before .before .args in
+    At (c .places .given .0 .0) ≡ locate (a .format) (now (a .body)) (a .index)
 located c = sym (c .places .given .1) ∙ c .before .before .locate .ensures
 
 returns : tie.Need-returns
@@ -38,7 +40,9 @@ part-of-requires : tie.Need-part-of-requires
 part-of-requires c κs = search needs
 
 add-end : tie.Need-add-end
-add-end c = let a = c .before .before .before in omega (arith, a .before .before .before .before .good, piece-inside _ _ _ _ (located a) _ _ (c .before .part-of .ensures))
+add-end c =
+    let a = c .before .before .before in
+    omega (arith, a .before .before .before .before .good, piece-inside _ _ _ _ (located a) _ _ (c .before .part-of .ensures))
 
 sub-result-2 : tie.Need-sub-result-2
 sub-result-2 c = search needs

@@ -1,12 +1,26 @@
 -- `locate` meets its contract: each return has a law on the tests that led there. Assumes nothing.
-use mathlib.Core.Path.{_∙_, sym}
+use mathlib.Core.Path.{_≡_, _∙_, sym}
+use mathlib.Core.Bool.{true}
 use native.Mathlib.Omega.{arith}
+use denote.Ref.{now}
 use borrow.Author.Tests.{not-true, not-false}
+use Rattle.rules.specs.Body.{isSchedule}
+use Rattle.records.specs.Standing.{standing}
 use Rattle.records.proofs.Bodies.{stands-facts}
 use Rattle.records.proofs.Finding.{past-count, no-rates, no-form, found}
 use borrow.Author.Needs.{needs}
 use Rattle.records.proofs.locate.Statement.{statement}
 use Rattle.records.proofs.locate.Tie as tie
+
+-- a schedule's body, and one that stands
+scheduled : (c : tie.Else2) → isSchedule (c .before .before .before .before .before .args .format) ≡ true
+scheduled c = sym (c .before .is-schedule .ensures) ∙ not-false _ (c .if2 .left)
+
+stood : (c : tie.Else3)
+    → let kind = c .before .before in
+    let a = kind .before .before .before .before .before .args in
+    standing (a .format) (now (a .body)) ≡ true
+stood c = sym (c .before .stands .ensures) ∙ not-false _ (c .if3 .left)
 
 record-count-requires : tie.Need-record-count-requires
 record-count-requires c κs = search needs
@@ -34,13 +48,13 @@ returns-3 c =
     let s = c .before .before in
     let e = s .before .before in
     let k = e .before .record-count .ensures in
-    no-form _ _ _ (omega (arith, e .if1 .left)) (sym (s .before .is-schedule .ensures) ∙ not-false _ (s .if2 .left)) (sym (c .before .stands .ensures) ∙ not-true _ (c .if3 .taken))
+    no-form _ _ _ (omega (arith, e .if1 .left)) (scheduled s) (sym (c .before .stands .ensures) ∙ not-true _ (c .if3 .taken))
 
 places-in-requires : tie.Need-places-in-requires
 places-in-requires c κs =
     let e = c .before .before .before .before in
     let k = e .before .record-count .ensures in
-    (stands-facts _ _ (sym (c .before .stands .ensures) ∙ not-false _ (c .if3 .left)), omega (arith, e .if1 .left))
+    (stands-facts _ _ (stood c), omega (arith, e .if1 .left))
 
 returns-4 : tie.Need-returns-4
 returns-4 c =
@@ -48,7 +62,7 @@ returns-4 c =
     let s = t .before .before in
     let e = s .before .before in
     let k = e .before .record-count .ensures in
-    found _ _ _ (omega (arith, e .if1 .left)) (sym (s .before .is-schedule .ensures) ∙ not-false _ (s .if2 .left)) (sym (t .before .stands .ensures) ∙ not-false _ (t .if3 .left)) (c .places-in .ensures)
+    found _ _ _ (omega (arith, e .if1 .left)) (scheduled s) (stood t) (c .places-in .ensures)
 
 pub locate-spec : {M : Type 1} → statement M
 locate-spec =

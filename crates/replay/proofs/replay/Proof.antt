@@ -7,7 +7,8 @@ use Rattle.replay.proofs.replay.Statement.{statement}
 use Rattle.replay.proofs.replay.Tie as tie
 
 abbrev Inv-loop : tie.InvT-loop
-Inv-loop line₀ store₀ out₀ reader₀ turns₀ line store out reader turns = (length line ≡ length line₀) × (length store ≡ length store₀) × (length out ≡ length out₀)
+Inv-loop line₀ store₀ out₀ reader₀ turns₀ line store out reader turns =
+    (length line ≡ length line₀) × (length store ≡ length store₀) × (length out ≡ length out₀)
 
 abbrev μ-loop : tie.MeasureT-loop
 μ-loop line₀ store₀ out₀ reader₀ turns₀ line store out reader turns = turns

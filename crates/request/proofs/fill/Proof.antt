@@ -1,5 +1,5 @@
 -- `request::fill` meets its contract: six puts, one after another. Assumes nothing.
-use Rattle.request.proofs.Laws.{written}
+use Rattle.request.proofs.RequestLaws.{written}
 use borrow.Author.Needs.{needs}
 use Rattle.request.proofs.fill.Statement.{statement}
 use Rattle.request.proofs.fill.Tie as tie
@@ -42,7 +42,8 @@ returns c =
     let p₃ = p₄ .before .before .before .before in
     let p₂ = p₃ .before .before .before .before .before in
     let p₁ = p₂ .before .before .before .before in
-    written (p₁ .before .before .before .before .before .before .before .pre)
+    let lent = p₁ .before .before .before in
+    written (lent .before .before .before .before .pre)
     (p₁ .put .ensures) (p₂ .put-digits .ensures) (p₃ .put2 .ensures) (p₄ .put3 .ensures) (p₅ .put4 .ensures) (p₆ .put5 .ensures)
 
 pub fill-spec : {M : Type 1} → statement M

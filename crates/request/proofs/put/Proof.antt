@@ -5,7 +5,7 @@ use native.Mathlib.Omega.{arith}
 use lib.ListN.{length, length-set}
 use lib.Seq.{paste, paste-zero}
 use denote.Ref.{now}
-use Rattle.request.proofs.Laws.{put-step}
+use Rattle.request.proofs.RequestLaws.{put-step}
 use Rattle.request.proofs.put.Statement.{statement}
 use Rattle.request.proofs.put.Tie as tie
 
@@ -36,8 +36,11 @@ loop-less c = omega arith
 loop-again : tie.Need-loop-again Inv-loop μ-loop
 loop-again c =
     let l = c .before .before .loop in
-    let a = c .before .before .before .args in
-    (omega arith, simp length-set (l .inv .1), put-step (now (a .out)) (now (a .bytes)) (a .at) (l .i) 0 (l .inv .2) refl (omega arith) (c .before .loop-test .taken))
+    let a = c .before .before .before .args in (
+      omega arith,
+      simp length-set (l .inv .1),
+      put-step (now (a .out)) (now (a .bytes)) (a .at) (l .i) 0 (l .inv .2) refl (omega arith) (c .before .loop-test .taken),
+    )
 
 same-length : tie.Need-same-length Inv-loop μ-loop
 same-length c = c .before .loop .inv .1

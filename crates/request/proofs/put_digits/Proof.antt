@@ -6,7 +6,7 @@ use lib.ListN.{length, length-set, length-map}
 use lib.Seq.{paste, paste-zero}
 use denote.Ref.{now}
 use Rattle.rules.specs.Digits.{toAscii}
-use Rattle.request.proofs.Laws.{put-step, digit-most, ascii-at}
+use Rattle.request.proofs.RequestLaws.{put-step, digit-most, ascii-at}
 use Rattle.request.proofs.put_digits.Statement.{statement}
 use Rattle.request.proofs.put_digits.Tie as tie
 
@@ -44,8 +44,11 @@ loop-again c =
     let l = c .before .before .loop in
     let a = c .before .before .before .args in
     let digits = now (a .digits) in
-    let long = length-map digits (λ (x : ℕ). x + 48) in
-    (omega arith, simp length-set (l .inv .1), put-step (now (a .out)) (toAscii digits) (a .at) (l .i) 48 (l .inv .2) (ascii-at digits (l .i)) (omega arith) (omega arith))
+    let long = length-map digits (λ (x : ℕ). x + 48) in (
+      omega arith,
+      simp length-set (l .inv .1),
+      put-step (now (a .out)) (toAscii digits) (a .at) (l .i) 48 (l .inv .2) (ascii-at digits (l .i)) (omega arith) (omega arith),
+    )
 
 same-length : tie.Need-same-length Inv-loop μ-loop
 same-length c = c .before .loop .inv .1

@@ -7,7 +7,7 @@ use Rattle.rules.specs.Plant.{plantId}
 use Rattle.rules.specs.Reading.{readingOf}
 use Rattle.transfer.specs.Under.{underName}
 use Rattle.name.proofs.Laws.{read-broken, read-named}
-use Rattle.transfer.proofs.Laws.{no-name, under-read}
+use Rattle.transfer.proofs.Under.{no-name, under-read}
 use borrow.Author.Needs.{needs}
 use Rattle.transfer.proofs.read.Statement.{statement}
 use Rattle.transfer.proofs.read.Tie as tie
@@ -41,14 +41,17 @@ read-under-requires c κs = search needs
 
 returns-2 : tie.Need-returns-2
 returns-2 c =
-    let name = now (c .before .before .before .before .before .before .before .before .before .before .before .args .name) in
-    let body = now (c .before .before .before .before .before .before .before .before .before .before .before .args .body) in
-    let fields = c .before .before .before .before .before .before .fields .given in
-    let digits = c .before .before .before .before .plant-digits in
-    let checked = c .before .before .is-plant-id in
+    let checked = c .before .before in
+    let taken-apart = checked .before .before .before .before in
+    let name-read = taken-apart .before .before in
+    let args = name-read .before .before .before .args in
+    let fields = taken-apart .fields .given in
+    let digits = checked .before .before .plant-digits in
+    let fits = checked .is-plant-id in
+    let read = read-named _ _ (sym (fields .1) ∙ name-read .read-name .ensures) in
     c .read-under .ensures
-    ∙ ap (λ (x : List ℕ). readingOf (underName (checked .result) (fields .0 .0) x body)) (digits .ensures)
-    ∙ under-read name body (fields .0 .0) (read-named _ _ (sym (fields .1) ∙ c .before .before .before .before .before .before .before .before .read-name .ensures)) none _ (checked .ensures ∙ ap plantId (digits .ensures))
+    ∙ ap (λ (x : List ℕ). readingOf (underName (fits .result) (fields .0 .0) x (now (args .body)))) (digits .ensures)
+    ∙ under-read (now (args .name)) (now (args .body)) (fields .0 .0) read none _ (fits .ensures ∙ ap plantId (digits .ensures))
 
 pub read-spec : {M : Type 1} → statement M
 read-spec =

@@ -1,7 +1,7 @@
 use mathlib.Core.Path.{sym, _∙_}
 use mathlib.Core.Option.{some}
 use Rattle.name.proofs.Laws.{read-broken, read-named}
-use Rattle.transfer.proofs.Laws.{no-name, plant-read}
+use Rattle.transfer.proofs.Under.{no-name, plant-read}
 use borrow.Author.Needs.{needs}
 use Rattle.transfer.proofs.read_for.Statement.{statement}
 use Rattle.transfer.proofs.read_for.Tie as tie
@@ -22,7 +22,11 @@ read-named-requires : tie.Need-read-named-requires
 read-named-requires c κs = search needs
 
 returns-2 : tie.Need-returns-2
-returns-2 c = c .read-named .ensures ∙ plant-read _ _ _ (read-named _ _ (sym (c .before .before .fields .given .1) ∙ c .before .before .before .before .read-name .ensures)) _
+returns-2 c =
+    let taken-apart = c .before .before in
+    let name-read = taken-apart .before .before in
+    let read = read-named _ _ (sym (taken-apart .fields .given .1) ∙ name-read .read-name .ensures) in
+    c .read-named .ensures ∙ plant-read _ _ _ read _
 
 pub read-for-spec : {M : Type 1} → statement M
 read-for-spec =

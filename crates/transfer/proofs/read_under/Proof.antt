@@ -1,7 +1,7 @@
 use denote.Ref.{now}
 use borrow.Author.Tests.{not-true, not-false}
 use borrow.Author.Needs.{needs}
-use Rattle.transfer.proofs.Laws.{other-id, same-id}
+use Rattle.transfer.proofs.Under.{other-id, same-id}
 use Rattle.transfer.proofs.read_under.Statement.{statement}
 use Rattle.transfer.proofs.read_under.Tie as tie
 

@@ -43,7 +43,10 @@ enum-known-decided : tie.Need-enum-known-decided
 enum-known-decided c = search needs
 
 write-months-requires : tie.Need-write-months-requires
-write-months-requires c κs = let d = c .before .before .before .before in plan-months (fields (start d)) _ _ (decision d _ (c .before .before .decided .given .1))
+write-months-requires c κs =
+    let matched = c .before .before in
+    let d = matched .before .before in
+    plan-months (fields (start d)) _ _ (decision d _ (matched .decided .given .1))
 
 enum-told : tie.Need-enum-told
 enum-told c = search needs
@@ -62,21 +65,29 @@ same-length c = search needs
 
 returns : tie.Need-returns
 returns c =
-    let d = c .before .before .before .before .before .before .before in
-    same-output (now (start d .args .out)) (months-output (fields (start d)) (room d) (decision d _ (c .before .before .before .before .before .decided .given .1))) (c .before .before .write-months .ensures)
+    let written = c .before .before in
+    let matched = written .before .before .before in
+    let d = matched .before .before in
+    let months = decision d _ (matched .decided .given .1) in
+    same-output (now (start d .args .out)) (months-output (fields (start d)) (room d) months) (written .write-months .ensures)
 
 same-length-2 : tie.Need-same-length-2
 same-length-2 c = search needs
 
 returns-2 : tie.Need-returns-2
 returns-2 c =
-    let d = c .before .before .before .before .before .before in
-    same-output (now (start d .args .out)) (update-output (fields (start d)) (room d) (decision d _ (c .before .before .before .before .enum-told .given .1))) (c .before .before .write-update .ensures)
+    let written = c .before .before in
+    let matched = written .before .before in
+    let d = matched .before .before in
+    let update = decision d _ (matched .enum-told .given .1) in
+    same-output (now (start d .args .out)) (update-output (fields (start d)) (room d) update) (written .write-update .ensures)
 
 returns-3 : tie.Need-returns-3
 returns-3 c =
-    let d = c .before .before .before in
-    same-output (now (start d .args .out)) (refused-output (fields (start d)) (room d) (decision d _ (c .before .decided2 .given .1))) (refl, refl)
+    let matched = c .before in
+    let d = matched .before .before in
+    let refused = decision d _ (matched .decided2 .given .1) in
+    same-output (now (start d .args .out)) (refused-output (fields (start d)) (room d) refused) (refl, refl)
 
 pub write-body-spec : {M : Type 1} → statement M
 write-body-spec =

@@ -27,7 +27,8 @@ returns : tie.Need-returns
 returns c =
     let a = c .before .before .before .before .before in
     let g = a .args in
-    no-room (now (g .out)) (monthsBody (now (g .schedule)) (now (g .plant)) (g .end - g .first) (g .first) (now (g .rates))) (months-body-length (a .pre)) (c .if1 .taken)
+    no-room (now (g .out)) (monthsBody (now (g .schedule)) (now (g .plant)) (g .end - g .first) (g .first) (now (g .rates)))
+    (months-body-length (a .pre)) (c .if1 .taken)
 
 cast-put-number : tie.Need-cast-put-number
 cast-put-number c = search needs

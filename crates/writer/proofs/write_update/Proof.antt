@@ -36,11 +36,12 @@ same-length c = search needs
 
 returns-2 : tie.Need-returns-2
 returns-2 c =
-    let u = c .before .before in
-    let n = u .before .before .before .before in
-    let e = n .before .before in
+    let update-put = c .before .before in
+    let count-put = update-put .before .before .before .before in
+    let e = count-put .before .before in
     let a = e .before .before .before .before .before .before .before in
-    with-room (now (a .args .out)) (updateBody (fields a)) (update-body-length 203 (a .args .flag) (a .pre)) (e .if1 .left) (update-placed (now (a .args .out)) (fields a) (n .put-number .ensures) (u .put-update .ensures))
+    let placed = update-placed (now (a .args .out)) (fields a) (count-put .put-number .ensures) (update-put .put-update .ensures) in
+    with-room (now (a .args .out)) (updateBody (fields a)) (update-body-length 203 (a .args .flag) (a .pre)) (e .if1 .left) placed
 
 pub write-update-spec : {M : Type 1} → statement M
 write-update-spec =

@@ -49,13 +49,17 @@ returns : tie.Need-returns
 returns c =
     let q = c .before .before .before in
     let n = q .before .before in
-    next-at-some (now (n .before .before .args .s)) _ (rates-here _ _ (n .rate-count .ensures .0) (n .before .before .pre)) _ (sym (c .before .second .given .1) ∙ q .read-moment .ensures)
+    let start = n .before .before in
+    let rates = rates-here _ _ (n .rate-count .ensures .0) (start .pre) in
+    next-at-some (now (start .args .s)) _ rates _ (sym (c .before .second .given .1) ∙ q .read-moment .ensures)
 
 returns-2 : tie.Need-returns-2
 returns-2 c =
     let q = c .before .before in
     let n = q .before .before in
-    next-at-none (now (n .before .before .args .s)) _ (rates-here _ _ (n .rate-count .ensures .0) (n .before .before .pre)) (sym (c .enum-told .given .1) ∙ q .read-moment .ensures)
+    let start = n .before .before in
+    let rates = rates-here _ _ (n .rate-count .ensures .0) (start .pre) in
+    next-at-none (now (start .args .s)) _ rates (sym (c .enum-told .given .1) ∙ q .read-moment .ensures)
 
 pub next-at-spec : {M : Type 1} → statement M
 next-at-spec =

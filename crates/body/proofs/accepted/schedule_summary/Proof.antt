@@ -29,16 +29,19 @@ flag-at-requires : tie.Need-flag-at-requires
 flag-at-requires c κs = whole-start _ _ (c .before .before .before .before .pre .1 .0)
 
 access-at-requires : tie.Need-access-at-requires
-access-at-requires c κs = whole-start _ _ (c .before .before .before .before .before .pre .1 .0)
+access-at-requires c κs =
+    let start = c .before .before .before .before .before in
+    whole-start _ _ (start .pre .1 .0)
 
 returns : tie.Need-returns
 returns c =
-    let g = c .before in
-    let t = g .before in
-    let k = t .before in
-    let x = k .before in
-    let a = x .before .before in
-    summary-is _ _ _ (a .pre .0) (a .pre .1 .0) (a .pre .1 .1) _ _ _ _ _ (x .fixed-bytes .ensures .0) (k .record-count .ensures) (t .start-at .ensures) (g .flag-at .ensures) (c .access-at .ensures)
+    let flag = c .before in
+    let start = flag .before in
+    let count = start .before in
+    let fixed = count .before in
+    let pre = fixed .before .before .pre in
+    summary-is _ _ _ (pre .0) (pre .1 .0) (pre .1 .1) _ _ _ _ _ (fixed .fixed-bytes .ensures .0) (count .record-count .ensures)
+    (start .start-at .ensures) (flag .flag-at .ensures) (c .access-at .ensures)
 
 pub schedule-summary-spec : {M : Type 1} → statement M
 schedule-summary-spec =

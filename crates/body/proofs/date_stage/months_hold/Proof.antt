@@ -1,4 +1,5 @@
--- `date_stage::months_hold` meets its contract. The invariant: what is left has its form, and its months from the present one on give the whole answer. Assumes nothing.
+-- `date_stage::months_hold` meets its contract. The invariant: what is left has its form, and its months from the present
+-- one on give the whole answer. Assumes nothing.
 use borrow.Author.Needs.{needs}
 use Prim.Native.Nat.{_≤_, _+_}
 use mathlib.Core.Path.{_≡_, _∙_, refl, sym}
@@ -7,6 +8,7 @@ use native.Mathlib.Omega.{arith}
 use borrow.Author.Tests.{not-true, not-false}
 use Rattle.rules.specs.Body.{countOf, sizeOf}
 use Rattle.rules.specs.File.{monthsFrom}
+use Rattle.rules.specs.declared.Format.{Format}
 use Rattle.form.specs.Walk.{shaped, recordsFrom, Whole}
 use Rattle.form.proofs.Walk.{count-bound, whole-first, within, rates-here, size-here, shaped-rest}
 use Rattle.body.proofs.Starts.{months-end, months-step, months-stop}
@@ -15,7 +17,8 @@ use Rattle.body.proofs.date_stage.months_hold.Tie as tie
 
 abbrev Inv-loop : tie.InvT-loop
 Inv-loop first format s tail left₀ month₀ t₀ left month t =
-    (shaped format left t ≡ true) × (month + left ≤ 1299) × (monthsFrom first (recordsFrom format (countOf format) s) ≡ monthsFrom month (recordsFrom format left t))
+    (shaped format left t ≡ true) × (month + left ≤ 1299)
+    × (monthsFrom first (recordsFrom format (countOf format) s) ≡ monthsFrom month (recordsFrom format left t))
 
 abbrev μ-loop : tie.MeasureT-loop
 μ-loop first format s tail left₀ month₀ t₀ left month t = left
@@ -39,11 +42,14 @@ rate-count-requires c κs = search needs
 abbrev here : tie.After-rate-count Inv-loop μ-loop → tie.At-loop Inv-loop μ-loop
 here c = c .before .before
 
-stood : (c : tie.After-rate-count Inv-loop μ-loop) → Whole (here c .before .before .before .before .args .format) (here c .loop .t .now)
+abbrev format-of : tie.After-rate-count Inv-loop μ-loop → Format
+format-of c = here c .before .before .before .before .args .format
+
+stood : (c : tie.After-rate-count Inv-loop μ-loop) → Whole (format-of c) (here c .loop .t .now)
 stood c = whole-first _ _ _ (c .before .loop-test .taken) (here c .loop .inv .0)
 
 size : (c : tie.After-rate-count Inv-loop μ-loop)
-    → 53 + c .rate-count .result + here c .before .before .tail-digits .result ≡ sizeOf (here c .before .before .before .before .args .format) (here c .loop .t .now)
+    → 53 + c .rate-count .result + here c .before .before .tail-digits .result ≡ sizeOf (format-of c) (here c .loop .t .now)
 size c = size-here _ _ (c .rate-count .ensures .0) (here c .before .before .tail-digits .ensures .0) (stood c)
 
 whole-month-requires : tie.Need-whole-month-requires Inv-loop μ-loop

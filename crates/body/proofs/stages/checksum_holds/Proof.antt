@@ -41,10 +41,11 @@ pair-requires c κs = search needs
 
 returns : tie.Need-returns
 returns c =
-    let k = c .before in
-    let fl = k .before .before .before in
-    let a = fl .before .before in
-    checksum-fits (a .args .format) (now (a .args .s)) _ (a .pre .1) _ _ _ (omega (arith, a .pre .0 .few, a .pre .1)) (fl .flag-digits .ensures .0) (k .checksum .ensures) (c .pair .ensures .0)
+    let summed = c .before in
+    let flag = summed .before .before .before in
+    let start = flag .before .before in
+    checksum-fits (start .args .format) (now (start .args .s)) _ (start .pre .1) _ _ _ (omega (arith, start .pre .0 .few, start .pre .1))
+    (flag .flag-digits .ensures .0) (summed .checksum .ensures) (c .pair .ensures .0)
 
 pub checksum-holds-spec : {M : Type 1} → statement M
 checksum-holds-spec =

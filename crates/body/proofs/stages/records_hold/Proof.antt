@@ -5,6 +5,7 @@ use mathlib.Core.Path.{_≡_, _∙_, refl, sym}
 use mathlib.Core.Bool.{true}
 use borrow.Author.Tests.{not-true, not-false}
 use Rattle.rules.specs.Body.{countOf, sizeOf, every}
+use Rattle.rules.specs.declared.Format.{Format}
 use Rattle.form.specs.Walk.{shaped, recordsFrom, Whole}
 use Rattle.form.proofs.Walk.{whole-first, within, rates-here, size-here, shaped-rest}
 use Rattle.body.specs.Records.{holds}
@@ -14,7 +15,8 @@ use Rattle.body.proofs.stages.records_hold.Tie as tie
 
 abbrev Inv-loop : tie.InvT-loop
 Inv-loop stage format plant s tail left₀ t₀ left t =
-    (shaped format left t ≡ true) × (every (holds stage plant) (recordsFrom format (countOf format) s) ≡ every (holds stage plant) (recordsFrom format left t))
+    (shaped format left t ≡ true)
+    × (every (holds stage plant) (recordsFrom format (countOf format) s) ≡ every (holds stage plant) (recordsFrom format left t))
 
 abbrev μ-loop : tie.MeasureT-loop
 μ-loop stage format plant s tail left₀ t₀ left t = left
@@ -40,11 +42,14 @@ cast-rates c = search needs
 abbrev here : tie.After-rate-count Inv-loop μ-loop → tie.At-loop Inv-loop μ-loop
 here c = c .before .before
 
-stood : (c : tie.After-rate-count Inv-loop μ-loop) → Whole (here c .before .before .before .before .before .args .format) (here c .loop .t .now)
+abbrev format-of : tie.After-rate-count Inv-loop μ-loop → Format
+format-of c = here c .before .before .before .before .before .args .format
+
+stood : (c : tie.After-rate-count Inv-loop μ-loop) → Whole (format-of c) (here c .loop .t .now)
 stood c = whole-first _ _ _ (c .before .loop-test .taken) (here c .loop .inv .0)
 
 size : (c : tie.After-rate-count Inv-loop μ-loop)
-    → 53 + c .rate-count .result + here c .before .before .tail-digits .result ≡ sizeOf (here c .before .before .before .before .before .args .format) (here c .loop .t .now)
+    → 53 + c .rate-count .result + here c .before .before .tail-digits .result ≡ sizeOf (format-of c) (here c .loop .t .now)
 size c = size-here _ _ (c .rate-count .ensures .0) (here c .before .before .tail-digits .ensures .0) (stood c)
 
 record-holds-requires : tie.Need-record-holds-requires Inv-loop μ-loop

@@ -8,7 +8,7 @@ use borrow.Author.Needs.{needs}
 use borrow.Author.Tests.{not-true, not-false}
 use Rattle.rules.specs.Digits.{allDigits}
 use Rattle.rules.specs.File.{monthBegins}
-use Rattle.digits.proofs.Parts.{both}
+use Rattle.laws.proofs.Tests.{both}
 use Rattle.calendar.specs.Moments.{monthExists}
 use Rattle.calendar.proofs.DateLaws.{MonthFacts, month-facts}
 use Rattle.calendar.proofs.Begins.{begun-short, begun-not, begun-is}
@@ -22,7 +22,7 @@ read c = c .before .before .before .before .before
 abbrev entry : tie.After-pair3 → tie.Start
 entry c = c .before .before .before .before .before
 
--- the three tests
+-- the three tests: digits alone, a month of the calendar, and the day and time of its start
 abbrev flags : tie.After-is-month → Bool
 flags c = c .before .few-at-most .result && c .is-month .result && c .before .before .same .result
 
@@ -32,11 +32,16 @@ tested : (c : tie.After-is-month) (t : Bool) → flags c ≡ t
     (allDigits s && monthExists (100 * r .before .before .pair .result + r .before .pair2 .result) (r .pair3 .result) && monthBegins s) ≡ t
 tested c t e = cc (c .before .few-at-most .ensures, c .is-month .ensures, c .before .before .same .ensures)
 
-month-read : (c : tie.Else2) → let r = read (c .before) in MonthFacts (100 * r .before .before .pair .result + r .before .pair2 .result) (r .pair3 .result)
+month-read : (c : tie.Else2) →
+    let r = read (c .before) in
+    MonthFacts (100 * r .before .before .pair .result + r .before .pair2 .result) (r .pair3 .result)
 month-read c =
     let f = c .before in
+    let digits = f .before .few-at-most .result in
+    let month = f .is-month .result in
+    let begins = f .before .before .same .result in
     let passed = not-false (flags f) (c .if2 .left) in
-    month-facts _ _ (sym (f .is-month .ensures) ∙ both (f .before .few-at-most .result) (f .is-month .result) (both (f .before .few-at-most .result && f .is-month .result) (f .before .before .same .result) passed .0) .1)
+    month-facts _ _ (sym (f .is-month .ensures) ∙ both digits month (both (digits && month) begins passed .0) .1)
 
 returns : tie.Need-returns
 returns c = begun-short (now (c .before .before .args .start)) (c .if1 .taken)
@@ -80,7 +85,9 @@ is-month-requires c κs = search needs
 returns-2 : tie.Need-returns-2
 returns-2 c =
     let r = read (c .before) in
-    begun-not (now (entry r .args .start)) (r .before .before .before .if1 .left) (r .before .before .pair .ensures .0) (r .before .pair2 .ensures .0) (r .pair3 .ensures .0)
+    let p = r .before in
+    let q = p .before in
+    begun-not (now (entry r .args .start)) (q .before .if1 .left) (q .pair .ensures .0) (p .pair2 .ensures .0) (r .pair3 .ensures .0)
     (tested (c .before) _ (not-true (flags (c .before)) (c .if2 .taken)))
 
 sub-t10 : tie.Need-sub-t10
@@ -101,7 +108,9 @@ cast-t21 c = let f = month-read c in omega (arith, f .from, f .until, f .first, 
 returns-3 : tie.Need-returns-3
 returns-3 c =
     let r = read (c .before) in
-    begun-is (now (entry r .args .start)) (r .before .before .before .if1 .left) (r .before .before .pair .ensures .0) (r .before .pair2 .ensures .0) (r .pair3 .ensures .0)
+    let p = r .before in
+    let q = p .before in
+    begun-is (now (entry r .args .start)) (q .before .if1 .left) (q .pair .ensures .0) (p .pair2 .ensures .0) (r .pair3 .ensures .0)
     (tested (c .before) _ (not-false (flags (c .before)) (c .if2 .left)))
 
 pub month-begun-spec : {M : Type 1} → statement M

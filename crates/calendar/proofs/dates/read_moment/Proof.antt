@@ -22,7 +22,8 @@ start c = c .before .before .before .before .before
 abbrev year : tie.After-pair3 → ℕ
 year c = 100 * c .before .before .pair .result + c .before .pair2 .result
 
-month-read : (c : tie.After-pair3) → MonthRead (text (start c .before .before)) (c .before .before .pair .result) (c .before .pair2 .result) (c .pair3 .result)
+month-read : (c : tie.After-pair3) →
+    MonthRead (text (start c .before .before)) (c .before .before .pair .result) (c .before .pair2 .result) (c .pair3 .result)
 month-read c =
     record {
       full = start c .if1 .left;
@@ -40,7 +41,12 @@ else3 c = c .before .before .before .before .before .before
 abbrev month-of : tie.After-is-time → tie.After-pair3
 month-of c = else3 c .before .before
 
-time-read : (c : tie.After-pair7) → TimeRead (text (start (c .before .before .before .before .before .before) .before .before)) (c .before .before .before .pair4 .result) (c .before .before .pair5 .result) (c .before .pair6 .result) (c .pair7 .result)
+time-read : (c : tie.After-pair7) →
+    let minute = c .before in
+    let hour = minute .before in
+    let day = hour .before in
+    let month = day .before .before .before in
+    TimeRead (text (start month .before .before)) (day .pair4 .result) (hour .pair5 .result) (minute .pair6 .result) (c .pair7 .result)
 time-read c =
     record {
       day = c .before .before .before .pair4 .ensures .0;
@@ -50,8 +56,12 @@ time-read c =
     }
 
 day-test : (c : tie.After-is-time) →
-    (dayExists (12 * (year (month-of c) - 2000) + (month-of c .pair3 .result - 1)) (c .before .before .before .before .before .pair4 .result)
-    && timeExists (c .before .before .before .before .pair5 .result) (c .before .before .before .pair6 .result) (c .before .before .pair7 .result))
+    let second = c .before .before in
+    let minute = second .before in
+    let hour = minute .before in
+    let day = hour .before in
+    (dayExists (12 * (year (month-of c) - 2000) + (month-of c .pair3 .result - 1)) (day .pair4 .result)
+    && timeExists (hour .pair5 .result) (minute .pair6 .result) (second .pair7 .result))
     ≡ (c .before .is-day .result && c .is-time .result)
 day-test c = ap₂ (λ (a : Bool) (b : Bool). a && b) (sym (c .before .is-day .ensures)) (sym (c .is-time .ensures))
 
@@ -121,21 +131,32 @@ is-time-requires : tie.Need-is-time-requires
 is-time-requires c κs = search needs
 
 returns-4 : tie.Need-returns-4
-returns-4 c = sym (ap momentOf (no-day (month-read (month-of (c .before))) (time-read (c .before .before .before)) (day-test (c .before) ∙ not-true _ (c .if4 .taken))))
+returns-4 c =
+    let tested = c .before in
+    let fails = day-test tested ∙ not-true _ (c .if4 .taken) in
+    sym (ap momentOf (no-day (month-read (month-of tested)) (time-read (tested .before .before)) fails))
 
 second-at-requires : tie.Need-second-at-requires
 second-at-requires c κs =
-    let a = month-of (c .before) in
-    let b = c .before .before .before in
-    dated (year a) (a .pair3 .result) (b .before .before .before .pair4 .result) (b .before .before .pair5 .result) (b .before .pair6 .result) (b .pair7 .result)
-    (month-there (else3 (c .before))) (day-test (c .before) ∙ not-false _ (c .if4 .left))
+    let tested = c .before in
+    let month = month-of tested in
+    let second = tested .before .before in
+    let minute = second .before in
+    let hour = minute .before in
+    let day = hour .before in
+    dated (year month) (month .pair3 .result) (day .pair4 .result) (hour .pair5 .result) (minute .pair6 .result) (second .pair7 .result)
+    (month-there (else3 tested)) (day-test tested ∙ not-false _ (c .if4 .left))
 
 returns-5 : tie.Need-returns-5
 returns-5 c =
-    let d = c .before .before in
-    let m = month-of d in
-    let all = sym (m .before .before .before .before .few-at-most .ensures) ∙ not-false _ (m .before .before .before .if2 .left) in
-    sym (ap momentOf (is-date (month-read m) (time-read (d .before .before)) all (month-there (else3 d)) (day-test d ∙ not-false _ (c .before .if4 .left)) (c .second-at .ensures)))
+    let tested = c .before .before in
+    let month = month-of tested in
+    let all-digits = month .before .before .before in
+    let all = sym (all-digits .before .few-at-most .ensures) ∙ not-false _ (all-digits .if2 .left) in
+    let day-there = day-test tested ∙ not-false _ (c .before .if4 .left) in
+    sym
+    (ap momentOf
+    (is-date (month-read month) (time-read (tested .before .before)) all (month-there (else3 tested)) day-there (c .second-at .ensures)))
 
 pub read-moment-spec : {M : Type 1} → statement M
 read-moment-spec =

@@ -71,8 +71,10 @@ returns-4 : tie.Need-returns-4
 returns-4 c =
     let p = c .before .before in
     let first = start (read p) in
-    let t = p .before .before .before .second .given in
-    sym (ap momentOf (is-start (text first) (first .if1 .left) _ (at-some _ _ (sym (t .1) ∙ minute-read (read p))) (half-test p ∙ not-false _ (c .before .if2 .left)) (c .slot-of .ensures)))
+    let second = p .before .before .before .second .given in
+    let found = at-some _ _ (sym (second .1) ∙ minute-read (read p)) in
+    let on-half-hour = half-test p ∙ not-false _ (c .before .if2 .left) in
+    sym (ap momentOf (is-start (text first) (first .if1 .left) _ found on-half-hour (c .slot-of .ensures)))
 
 pub start-slot-spec : {M : Type 1} → statement M
 start-slot-spec =

@@ -7,8 +7,9 @@ use denote.Ref.{now}
 use lib.ListN.{length, drop}
 use borrow.Author.Needs.{needs}
 use Rattle.rules.specs.ErrorFile.{utf8}
+use Rattle.laws.proofs.Bytes.{at-next}
 use Rattle.error_file.specs.Walk.{rest}
-use Rattle.error_file.proofs.Text.{at-place, at-end}
+use Rattle.error_file.proofs.Text.{at-end}
 use Rattle.error_file.proofs.utf8.is_utf8.Statement.{statement}
 use Rattle.error_file.proofs.utf8.is_utf8.Tie as tie
 
@@ -39,7 +40,7 @@ loop-again c =
     let l = c .before .before .before in
     let s = now (l .before .before .args .s) in (
       omega arith,
-      l .loop .inv .1 ∙ ap (rest (l .loop .walk)) (at-place s (l .loop .i) (omega arith)) ∙ c .step .ensures _,
+      l .loop .inv .1 ∙ ap (rest (l .loop .walk)) (at-next s (l .loop .i) (omega arith)) ∙ c .step .ensures _,
     )
 
 returns : tie.Need-returns Inv-loop μ-loop

@@ -82,8 +82,11 @@ returns-2 c =
     let w₂ = w₃ .before .before in
     let w₁ = w₂ .before .before in
     let e = w₁ .before .before in
-    let s = now (e .before .before .args .s) in
-    (rw (w₁ .wide .ensures .0, w₂ .wide2 .ensures .0, w₃ .wide3 .ensures .0, w₄ .wide4 .ensures .0, c .wide5 .ensures .0) (count-read s (e .if1 .left)), search needs)
+    let s = now (e .before .before .args .s) in (
+      rw (w₁ .wide .ensures .0, w₂ .wide2 .ensures .0, w₃ .wide3 .ensures .0, w₄ .wide4 .ensures .0, c .wide5 .ensures .0)
+          (count-read s (e .if1 .left)),
+      search needs,
+    )
 
 pub rate-count-spec : {M : Type 1} → statement M
 rate-count-spec =

@@ -14,12 +14,14 @@ in-window-requires c κs = search needs
 returns-2 : tie.Need-returns-2
 unfolding dueFor
 returns-2 c =
-    rw (lt-leb _ _ (c .before .before .before .before .before .if1 .left), ← c .before .in-window .ensures, c .if2 .taken)
+    let no-update = c .before .before .before .before .before in
+    rw (lt-leb _ _ (no-update .if1 .left), ← c .before .in-window .ensures, c .if2 .taken)
 
 returns-3 : tie.Need-returns-3
 unfolding dueFor
 returns-3 c =
-    rw (lt-leb _ _ (c .before .before .before .before .before .if1 .left), ← c .before .in-window .ensures, c .if2 .left)
+    let no-update = c .before .before .before .before .before in
+    rw (lt-leb _ _ (no-update .if1 .left), ← c .before .in-window .ensures, c .if2 .left)
 
 pub due-spec : {M : Type 1} → statement M
 due-spec = tie.close (tie.spec returns in-window-requires returns-2 returns-3)

@@ -4,7 +4,7 @@ use mathlib.Core.Bool.{not}
 use native.Mathlib.Omega.{arith}
 use borrow.Author.Tests.{ltb-true}
 use Rattle.rules.specs.Machine.{failedFixed}
-use Rattle.polling.proofs.Laws.{both}
+use Rattle.laws.proofs.Tests.{both}
 use borrow.Author.Needs.{needs}
 use Rattle.polling.proofs.Requests.failed_fixed.Statement.{statement}
 use Rattle.polling.proofs.Requests.failed_fixed.Tie as tie

@@ -48,7 +48,8 @@ add-place : tie.Need-add-place Inv-loop μ-loop
 add-place c =
     let r = counted c in
     let l = r .before .before in
-    omega (arith, rates-room _ _ _ _ _ _ _ (l .loop .inv) (r .before .loop-test .taken) _ (r .rate-count .ensures .0), l .loop .inv .same, l .before .before .before .before .good)
+    let room = rates-room _ _ _ _ _ _ _ (l .loop .inv) (r .before .loop-test .taken) _ (r .rate-count .ensures .0) in
+    omega (arith, room, l .loop .inv .same, l .before .before .before .before .good)
 
 tail-digits-requires : tie.Need-tail-digits-requires Inv-loop μ-loop
 tail-digits-requires c κs = search needs
@@ -80,7 +81,8 @@ loop-again c =
     let d = c .before in
     let p = d .before .before .before in
     let r = counted (d .before) in
-    going-next _ _ _ _ _ _ _ (r .before .before .loop .inv) (r .before .loop-test .taken) _ (r .rate-count .ensures .0) _ (d .tail-digits .ensures .0) (p .put .kept .0) (p .put .ensures)
+    going-next _ _ _ _ _ _ _ (r .before .before .loop .inv) (r .before .loop-test .taken) _ (r .rate-count .ensures .0) _
+    (d .tail-digits .ensures .0) (p .put .kept .0) (p .put .ensures)
 
 same-length : tie.Need-same-length Inv-loop μ-loop
 same-length c = c .before .loop .inv .same

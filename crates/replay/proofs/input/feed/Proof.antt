@@ -8,7 +8,8 @@ use Rattle.replay.proofs.input.feed.Statement.{statement}
 use Rattle.replay.proofs.input.feed.Tie as tie
 
 abbrev Inv-loop : tie.InvT-loop
-Inv-loop part line₀ store₀ out₀ reader₀ rest₀ line store out reader rest = (length line ≡ length line₀) × (length store ≡ length store₀) × (length out ≡ length out₀)
+Inv-loop part line₀ store₀ out₀ reader₀ rest₀ line store out reader rest =
+    (length line ≡ length line₀) × (length store ≡ length store₀) × (length out ≡ length out₀)
 
 abbrev μ-loop : tie.MeasureT-loop
 μ-loop part line₀ store₀ out₀ reader₀ rest₀ line store out reader rest = length rest

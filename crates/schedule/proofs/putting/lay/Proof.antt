@@ -6,7 +6,8 @@ use lib.ListN.{length, take, length-set}
 use denote.Ref.{now}
 use borrow.Author.Needs.{needs}
 use Rattle.rules.specs.Store.{rateBytes}
-use Rattle.schedule.proofs.Parts.{copy-step, copy-end}
+use Rattle.digits.proofs.Placing.{copy-end}
+use Rattle.schedule.proofs.Parts.{copy-step}
 use Rattle.schedule.proofs.RateLaws.{bytes-length, bytes-at}
 use Rattle.schedule.proofs.putting.lay.Statement.{statement}
 use Rattle.schedule.proofs.putting.lay.Tie as tie

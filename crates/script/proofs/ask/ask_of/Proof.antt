@@ -1,6 +1,8 @@
 -- `script::ask::ask_of` meets its contract: a return for each number of words. Assumes nothing.
+use Prim.Native.Nat.{ℕ}
 use mathlib.Core.Path.{_≡_, _∙_, sym, ap}
 use mathlib.Core.Bool.{false}
+use mathlib.Core.List.{List}
 use borrow.Author.Needs.{needs}
 use denote.Ref.{now}
 use Rattle.script_words.specs.Words.{wordCount}
@@ -9,9 +11,15 @@ use Rattle.script.proofs.AskLaws.{nothing-asked, one-word, two-words, t
 use Rattle.script.proofs.ask.ask_of.Statement.{statement}
 use Rattle.script.proofs.ask.ask_of.Tie as tie
 
+abbrev line : tie.After-word-count → List ℕ
+line w = now (w .before .before .before .before .args .line)
+
 -- the line is not silent, and its words are counted
-asked : (w : tie.After-word-count) → (isSilent (now (w .before .before .before .before .args .line)) ≡ false) × (w .word-count .result ≡ wordCount (now (w .before .before .before .before .args .line)))
-asked w = (sym (w .before .before .is-silent .ensures) ∙ w .before .if1 .left, w .word-count .ensures)
+loud : (w : tie.After-word-count) → isSilent (line w) ≡ false
+loud w = sym (w .before .before .is-silent .ensures) ∙ w .before .if1 .left
+
+counted : (w : tie.After-word-count) → w .word-count .result ≡ wordCount (line w)
+counted w = w .word-count .ensures
 
 is-silent-requires : tie.Need-is-silent-requires
 is-silent-requires c κs = search needs
@@ -33,8 +41,7 @@ returns-2 : tie.Need-returns-2
 returns-2 c =
     let t = c .before .before in
     let w = t .before in
-    let e = asked w in
-    c .ask-one .ensures ∙ ap askOne (c .before .word .ensures) ∙ sym (one-word _ _ (e .0) (e .1) (t .if2 .taken))
+    c .ask-one .ensures ∙ ap askOne (c .before .word .ensures) ∙ sym (one-word _ _ (loud w) (counted w) (t .if2 .taken))
 
 word-requires-2 : tie.Need-word-requires-2
 word-requires-2 c κs = search needs
@@ -49,8 +56,7 @@ returns-3 : tie.Need-returns-3
 returns-3 c =
     let t = c .before .before .before in
     let w = t .before .before in
-    let e = asked w in
-    c .ask-two .ensures ∙ (cc) ∙ sym (two-words _ _ (e .0) (e .1) (t .before .if2 .left) (t .if3 .taken))
+    c .ask-two .ensures ∙ (cc) ∙ sym (two-words _ _ (loud w) (counted w) (t .before .if2 .left) (t .if3 .taken))
 
 word-requires-4 : tie.Need-word-requires-4
 word-requires-4 c κs = search needs
@@ -67,9 +73,10 @@ ask-three-requires c κs = search needs
 returns-4 : tie.Need-returns-4
 returns-4 c =
     let t = c .before .before .before .before in
-    let w = t .before .before .before in
-    let e = asked w in
-    c .ask-three .ensures ∙ (cc) ∙ sym (three-words _ _ (e .0) (e .1) (t .before .before .if2 .left) (t .before .if3 .left) (t .if4 .taken))
+    let not-two = t .before in
+    let not-one = not-two .before in
+    let w = not-one .before in
+    c .ask-three .ensures ∙ (cc) ∙ sym (three-words _ _ (loud w) (counted w) (not-one .if2 .left) (not-two .if3 .left) (t .if4 .taken))
 
 word-requires-7 : tie.Need-word-requires-7
 word-requires-7 c κs = search needs
@@ -89,15 +96,20 @@ ask-six-requires c κs = search needs
 returns-5 : tie.Need-returns-5
 returns-5 c =
     let t = c .before .before .before .before .before in
-    let w = t .before .before .before .before in
-    let e = asked w in
-    c .ask-six .ensures ∙ (cc) ∙ sym (six-words _ _ (e .0) (e .1) (t .before .before .before .if2 .left) (t .before .before .if3 .left) (t .before .if4 .left) (t .if5 .taken))
+    let not-three = t .before in
+    let not-two = not-three .before in
+    let not-one = not-two .before in
+    let w = not-one .before in
+    c .ask-six .ensures ∙ (cc)
+    ∙ sym (six-words _ _ (loud w) (counted w) (not-one .if2 .left) (not-two .if3 .left) (not-three .if4 .left) (t .if5 .taken))
 
 returns-6 : tie.Need-returns-6
 returns-6 c =
-    let w = c .before .before .before .before in
-    let e = asked w in
-    sym (other-count _ _ (e .0) (e .1) (c .before .before .before .if2 .left) (c .before .before .if3 .left) (c .before .if4 .left) (c .if5 .left))
+    let not-three = c .before in
+    let not-two = not-three .before in
+    let not-one = not-two .before in
+    let w = not-one .before in
+    sym (other-count _ _ (loud w) (counted w) (not-one .if2 .left) (not-two .if3 .left) (not-three .if4 .left) (c .if5 .left))
 
 pub ask-of-spec : {M : Type 1} → statement M
 ask-of-spec =

@@ -1,5 +1,5 @@
 -- `script::ask::ask_six` meets its contract: a return for each word. Assumes nothing.
-use mathlib.Core.Path.{_∙_, refl, sym, ap}
+use mathlib.Core.Path.{_∙_, refl, sym}
 use borrow.Author.Needs.{needs}
 use Rattle.script.specs.Ask.{askSix}
 use Rattle.script.proofs.ask.ask_six.Statement.{statement}
@@ -26,14 +26,12 @@ install-ask-requires c κs = search needs
 returns : tie.Need-returns
 unfolding askSix
 returns c =
-    let e1 = sym (c .before .before .before .before .before .same .ensures) ∙ c .before .before .before .before .if1 .taken in
-    rw (e1) (c .install-ask .ensures ∙ cc)
+    let taken = c .before .before .before .before in
+    rw (sym (taken .before .same .ensures) ∙ taken .if1 .taken) (c .install-ask .ensures ∙ cc)
 
 returns-2 : tie.Need-returns-2
 unfolding askSix
-returns-2 c =
-    let e1 = sym (c .before .same .ensures) ∙ c .if1 .left in
-    rw (e1) refl
+returns-2 c = rw (sym (c .before .same .ensures) ∙ c .if1 .left) refl
 
 pub ask-six-spec : {M : Type 1} → statement M
 ask-six-spec =

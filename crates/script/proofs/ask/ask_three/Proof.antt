@@ -1,9 +1,29 @@
 -- `script::ask::ask_three` meets its contract: a return for each word. Assumes nothing.
-use mathlib.Core.Path.{_∙_, refl, sym, ap}
+use Prim.Native.Nat.{ℕ}
+use mathlib.Core.Path.{_≡_, _∙_, refl, sym}
+use mathlib.Core.Bool.{false}
+use mathlib.Core.List.{List}
 use borrow.Author.Needs.{needs}
-use Rattle.script.specs.Ask.{askThree}
+use denote.Ref.{now}
+use Rattle.rules.specs.Digits.{sameBytes}
+use Rattle.script.specs.Ask.{storeWord, takeWord, failureWord, askThree}
 use Rattle.script.proofs.ask.ask_three.Statement.{statement}
 use Rattle.script.proofs.ask.ask_three.Tie as tie
+
+-- the word that the code compares, and what it is not once a test has failed
+abbrev call : tie.Else1 → List ℕ
+call c =
+    let lent = c .before .before .before in
+    now (lent .before .before .before .args .call)
+
+not-store : (c : tie.Else1) → sameBytes (call c) storeWord ≡ false
+not-store c = sym (c .before .same .ensures) ∙ c .if1 .left
+
+not-take : (c : tie.Else2) → sameBytes (call (c .before .before .before)) takeWord ≡ false
+not-take c = sym (c .before .same2 .ensures) ∙ c .if2 .left
+
+not-failure : (c : tie.Else3) → sameBytes (call (c .before .before .before .before .before .before)) failureWord ≡ false
+not-failure c = sym (c .before .same3 .ensures) ∙ c .if3 .left
 
 slice-aggregate-same : tie.Need-slice-aggregate-same
 slice-aggregate-same c = search needs
@@ -23,8 +43,8 @@ store-ask-requires c κs = search needs
 returns : tie.Need-returns
 unfolding askThree
 returns c =
-    let e1 = sym (c .before .before .before .before .same .ensures) ∙ c .before .before .before .if1 .taken in
-    rw (e1) (c .store-ask .ensures ∙ cc)
+    let taken = c .before .before .before in
+    rw (sym (taken .before .same .ensures) ∙ taken .if1 .taken) (c .store-ask .ensures ∙ cc)
 
 slice-aggregate-same-2 : tie.Need-slice-aggregate-same-2
 slice-aggregate-same-2 c = search needs
@@ -35,9 +55,8 @@ same-requires-2 c κs = search needs
 returns-2 : tie.Need-returns-2
 unfolding askThree
 returns-2 c =
-    let e1 = sym (c .before .before .before .before .same .ensures) ∙ c .before .before .before .if1 .left in
-    let e2 = sym (c .before .same2 .ensures) ∙ c .if2 .taken in
-    rw (e1, e2) refl
+    let past-store = c .before .before .before in
+    rw (not-store past-store, sym (c .before .same2 .ensures) ∙ c .if2 .taken) refl
 
 slice-aggregate-same-3 : tie.Need-slice-aggregate-same-3
 slice-aggregate-same-3 c = search needs
@@ -54,10 +73,10 @@ failure-ask-requires c κs = search needs
 returns-3 : tie.Need-returns-3
 unfolding askThree
 returns-3 c =
-    let e1 = sym (c .before .before .before .before .before .before .before .before .before .same .ensures) ∙ c .before .before .before .before .before .before .before .before .if1 .left in
-    let e2 = sym (c .before .before .before .before .before .before .same2 .ensures) ∙ c .before .before .before .before .before .if2 .left in
-    let e3 = sym (c .before .before .before .same3 .ensures) ∙ c .before .before .if3 .taken in
-    rw (e1, e2, e3) (c .failure-ask .ensures ∙ cc)
+    let taken = c .before .before in
+    let past-take = taken .before .before .before in
+    let past-store = past-take .before .before .before in
+    rw (not-store past-store, not-take past-take, sym (taken .before .same3 .ensures) ∙ taken .if3 .taken) (c .failure-ask .ensures ∙ cc)
 
 slice-aggregate-same-4 : tie.Need-slice-aggregate-same-4
 slice-aggregate-same-4 c = search needs
@@ -77,20 +96,20 @@ byte-ask-requires c κs = search needs
 returns-4 : tie.Need-returns-4
 unfolding askThree
 returns-4 c =
-    let e1 = sym (c .before .before .before .before .before .before .before .before .before .before .before .before .before .same .ensures) ∙ c .before .before .before .before .before .before .before .before .before .before .before .before .if1 .left in
-    let e2 = sym (c .before .before .before .before .before .before .before .before .before .before .same2 .ensures) ∙ c .before .before .before .before .before .before .before .before .before .if2 .left in
-    let e3 = sym (c .before .before .before .before .before .before .before .same3 .ensures) ∙ c .before .before .before .before .before .before .if3 .left in
-    let e4 = sym (c .before .before .before .before .same4 .ensures) ∙ c .before .before .before .if4 .taken in
-    rw (e1, e2, e3, e4) (c .byte-ask .ensures ∙ cc)
+    let taken = c .before .before .before in
+    let past-failure = taken .before .before .before in
+    let past-take = past-failure .before .before .before in
+    let past-store = past-take .before .before .before in
+    rw (not-store past-store, not-take past-take, not-failure past-failure, sym (taken .before .same4 .ensures) ∙ taken .if4 .taken)
+    (c .byte-ask .ensures ∙ cc)
 
 returns-5 : tie.Need-returns-5
 unfolding askThree
 returns-5 c =
-    let e1 = sym (c .before .before .before .before .before .before .before .before .before .before .same .ensures) ∙ c .before .before .before .before .before .before .before .before .before .if1 .left in
-    let e2 = sym (c .before .before .before .before .before .before .before .same2 .ensures) ∙ c .before .before .before .before .before .before .if2 .left in
-    let e3 = sym (c .before .before .before .before .same3 .ensures) ∙ c .before .before .before .if3 .left in
-    let e4 = sym (c .before .same4 .ensures) ∙ c .if4 .left in
-    rw (e1, e2, e3, e4) refl
+    let past-failure = c .before .before .before in
+    let past-take = past-failure .before .before .before in
+    let past-store = past-take .before .before .before in
+    rw (not-store past-store, not-take past-take, not-failure past-failure, sym (c .before .same4 .ensures) ∙ c .if4 .left) refl
 
 pub ask-three-spec : {M : Type 1} → statement M
 ask-three-spec =

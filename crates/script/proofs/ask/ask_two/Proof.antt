@@ -1,9 +1,27 @@
 -- `script::ask::ask_two` meets its contract: a return for each word. Assumes nothing.
-use mathlib.Core.Path.{_∙_, refl, sym, ap}
+use Prim.Native.Nat.{ℕ}
+use mathlib.Core.Path.{_≡_, _∙_, refl, sym, ap}
+use mathlib.Core.Bool.{false}
+use mathlib.Core.List.{List}
 use borrow.Author.Needs.{needs}
-use Rattle.script.specs.Ask.{tickAsk, ceilingAsk, blockAsk, askTwo}
+use denote.Ref.{now}
+use Rattle.rules.specs.Digits.{sameBytes}
+use Rattle.script.specs.Ask.{tickWord, ceilingWord, requestWord, tickAsk, ceilingAsk, blockAsk, askTwo}
 use Rattle.script.proofs.ask.ask_two.Statement.{statement}
 use Rattle.script.proofs.ask.ask_two.Tie as tie
+
+-- the word that the code compares, and what it is not once a test has failed
+abbrev call : tie.Else1 → List ℕ
+call c = now (c .before .before .before .before .before .args .call)
+
+not-tick : (c : tie.Else1) → sameBytes (call c) tickWord ≡ false
+not-tick c = sym (c .before .same .ensures) ∙ c .if1 .left
+
+not-ceiling : (c : tie.Else2) → sameBytes (call (c .before .before .before)) ceilingWord ≡ false
+not-ceiling c = sym (c .before .same2 .ensures) ∙ c .if2 .left
+
+not-request : (c : tie.Else3) → sameBytes (call (c .before .before .before .before .before .before)) requestWord ≡ false
+not-request c = sym (c .before .same3 .ensures) ∙ c .if3 .left
 
 slice-aggregate-same : tie.Need-slice-aggregate-same
 slice-aggregate-same c = search needs
@@ -20,8 +38,8 @@ tick-ask-requires c κs = search needs
 returns : tie.Need-returns
 unfolding askTwo
 returns c =
-    let e1 = sym (c .before .before .before .same .ensures) ∙ c .before .before .if1 .taken in
-    rw (e1) (c .tick-ask .ensures ∙ ap tickAsk (c .before .number-of .ensures))
+    let taken = c .before .before in
+    rw (sym (taken .before .same .ensures) ∙ taken .if1 .taken) (c .tick-ask .ensures ∙ ap tickAsk (c .before .number-of .ensures))
 
 slice-aggregate-same-2 : tie.Need-slice-aggregate-same-2
 slice-aggregate-same-2 c = search needs
@@ -38,9 +56,10 @@ ceiling-ask-requires c κs = search needs
 returns-2 : tie.Need-returns-2
 unfolding askTwo
 returns-2 c =
-    let e1 = sym (c .before .before .before .before .before .before .same .ensures) ∙ c .before .before .before .before .before .if1 .left in
-    let e2 = sym (c .before .before .before .same2 .ensures) ∙ c .before .before .if2 .taken in
-    rw (e1, e2) (c .ceiling-ask .ensures ∙ ap ceilingAsk (c .before .number-of2 .ensures))
+    let taken = c .before .before in
+    let past-tick = taken .before .before .before in
+    rw (not-tick past-tick, sym (taken .before .same2 .ensures) ∙ taken .if2 .taken)
+    (c .ceiling-ask .ensures ∙ ap ceilingAsk (c .before .number-of2 .ensures))
 
 slice-aggregate-same-3 : tie.Need-slice-aggregate-same-3
 slice-aggregate-same-3 c = search needs
@@ -51,10 +70,9 @@ same-requires-3 c κs = search needs
 returns-3 : tie.Need-returns-3
 unfolding askTwo
 returns-3 c =
-    let e1 = sym (c .before .before .before .before .before .before .before .same .ensures) ∙ c .before .before .before .before .before .before .if1 .left in
-    let e2 = sym (c .before .before .before .before .same2 .ensures) ∙ c .before .before .before .if2 .left in
-    let e3 = sym (c .before .same3 .ensures) ∙ c .if3 .taken in
-    rw (e1, e2, e3) refl
+    let past-ceiling = c .before .before .before in
+    let past-tick = past-ceiling .before .before .before in
+    rw (not-tick past-tick, not-ceiling past-ceiling, sym (c .before .same3 .ensures) ∙ c .if3 .taken) refl
 
 slice-aggregate-same-4 : tie.Need-slice-aggregate-same-4
 slice-aggregate-same-4 c = search needs
@@ -71,20 +89,20 @@ block-ask-requires c κs = search needs
 returns-4 : tie.Need-returns-4
 unfolding askTwo
 returns-4 c =
-    let e1 = sym (c .before .before .before .before .before .before .before .before .before .before .before .before .same .ensures) ∙ c .before .before .before .before .before .before .before .before .before .before .before .if1 .left in
-    let e2 = sym (c .before .before .before .before .before .before .before .before .before .same2 .ensures) ∙ c .before .before .before .before .before .before .before .before .if2 .left in
-    let e3 = sym (c .before .before .before .before .before .before .same3 .ensures) ∙ c .before .before .before .before .before .if3 .left in
-    let e4 = sym (c .before .before .before .same4 .ensures) ∙ c .before .before .if4 .taken in
-    rw (e1, e2, e3, e4) (c .block-ask .ensures ∙ ap blockAsk (c .before .number-of3 .ensures))
+    let taken = c .before .before in
+    let past-request = taken .before .before .before in
+    let past-ceiling = past-request .before .before .before in
+    let past-tick = past-ceiling .before .before .before in
+    rw (not-tick past-tick, not-ceiling past-ceiling, not-request past-request, sym (taken .before .same4 .ensures) ∙ taken .if4 .taken)
+    (c .block-ask .ensures ∙ ap blockAsk (c .before .number-of3 .ensures))
 
 returns-5 : tie.Need-returns-5
 unfolding askTwo
 returns-5 c =
-    let e1 = sym (c .before .before .before .before .before .before .before .before .before .before .same .ensures) ∙ c .before .before .before .before .before .before .before .before .before .if1 .left in
-    let e2 = sym (c .before .before .before .before .before .before .before .same2 .ensures) ∙ c .before .before .before .before .before .before .if2 .left in
-    let e3 = sym (c .before .before .before .before .same3 .ensures) ∙ c .before .before .before .if3 .left in
-    let e4 = sym (c .before .same4 .ensures) ∙ c .if4 .left in
-    rw (e1, e2, e3, e4) refl
+    let past-request = c .before .before .before in
+    let past-ceiling = past-request .before .before .before in
+    let past-tick = past-ceiling .before .before .before in
+    rw (not-tick past-tick, not-ceiling past-ceiling, not-request past-request, sym (c .before .same4 .ensures) ∙ c .if4 .left) refl
 
 pub ask-two-spec : {M : Type 1} → statement M
 ask-two-spec =

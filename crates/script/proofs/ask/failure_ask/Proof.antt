@@ -1,8 +1,16 @@
 -- `script::ask::failure_ask` meets its contract: a return for each word. Assumes nothing.
-use mathlib.Core.Path.{_∙_, refl, sym, ap}
+use mathlib.Core.Path.{_≡_, _∙_, refl, sym}
+use mathlib.Core.Bool.{false}
 use borrow.Author.Needs.{needs}
+use denote.Ref.{now}
+use Rattle.rules.specs.Digits.{sameBytes}
+use Rattle.script.specs.Ask.{updateWord}
 use Rattle.script.proofs.ask.failure_ask.Statement.{statement}
 use Rattle.script.proofs.ask.failure_ask.Tie as tie
+
+-- the kind is no update
+not-update : (c : tie.Else1) → sameBytes (now (c .before .before .before .before .args .kind)) updateWord ≡ false
+not-update c = sym (c .before .same .ensures) ∙ c .if1 .left
 
 slice-aggregate-same : tie.Need-slice-aggregate-same
 slice-aggregate-same c = search needs
@@ -15,8 +23,8 @@ status-ask-requires c κs = search needs
 
 returns : tie.Need-returns
 returns c =
-    let e1 = sym (c .before .before .same .ensures) ∙ c .before .if1 .taken in
-    rw (e1) (c .status-ask .ensures)
+    let taken = c .before in
+    rw (sym (taken .before .same .ensures) ∙ taken .if1 .taken) (c .status-ask .ensures)
 
 slice-aggregate-same-2 : tie.Need-slice-aggregate-same-2
 slice-aggregate-same-2 c = search needs
@@ -29,15 +37,14 @@ status-ask-requires-2 c κs = search needs
 
 returns-2 : tie.Need-returns-2
 returns-2 c =
-    let e1 = sym (c .before .before .before .before .before .same .ensures) ∙ c .before .before .before .before .if1 .left in
-    let e2 = sym (c .before .before .same2 .ensures) ∙ c .before .if2 .taken in
-    rw (e1, e2) (c .status-ask2 .ensures)
+    let taken = c .before in
+    let past-update = taken .before .before .before in
+    rw (not-update past-update, sym (taken .before .same2 .ensures) ∙ taken .if2 .taken) (c .status-ask2 .ensures)
 
 returns-3 : tie.Need-returns-3
 returns-3 c =
-    let e1 = sym (c .before .before .before .before .same .ensures) ∙ c .before .before .before .if1 .left in
-    let e2 = sym (c .before .same2 .ensures) ∙ c .if2 .left in
-    rw (e1, e2) refl
+    let past-update = c .before .before .before in
+    rw (not-update past-update, sym (c .before .same2 .ensures) ∙ c .if2 .left) refl
 
 pub failure-ask-spec : {M : Type 1} → statement M
 failure-ask-spec =

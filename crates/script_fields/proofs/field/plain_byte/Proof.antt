@@ -2,7 +2,8 @@
 use mathlib.Core.Bool.{_&&_}
 use native.Mathlib.Omega.{arith}
 use lib.Dec.{leb}
-use Rattle.script_fields.proofs.RangeLaws.{both, within}
+use Rattle.laws.proofs.Tests.{both}
+use Rattle.script_fields.proofs.RangeLaws.{within}
 use Rattle.script_fields.proofs.field.plain_byte.Statement.{statement}
 use Rattle.script_fields.proofs.field.plain_byte.Tie as tie
 

@@ -31,7 +31,10 @@ add-result-2 c = search needs
 
 returns-3 : tie.Need-returns-3
 unfolding nibble
-returns-3 c = (simp (c .before .before .if1 .left, c .before .if2 .left, c .if3 .taken), omega (arith, within 97 102 (c .before .before .before .args .x) (c .if3 .taken)))
+returns-3 c =
+    let upper = c .before in
+    let decimal = upper .before in
+    (simp (decimal .if1 .left, upper .if2 .left, c .if3 .taken), omega (arith, within 97 102 (decimal .before .args .x) (c .if3 .taken)))
 
 returns-4 : tie.Need-returns-4
 unfolding nibble

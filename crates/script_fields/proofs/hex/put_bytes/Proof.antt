@@ -77,7 +77,8 @@ loop-again c =
     let s = now (a .s) in
     let h : l .i < length s / 2 = n .before .before .loop-test .taken in
     let long = hex-length s in
-    let x : c .before .before .nibble .result * 16 + c .nibble2 .result ≡ getD (hexBytes s) (l .i) 0 = rw (n .nibble .ensures .0, c .nibble2 .ensures .0) (sym (hex-byte s (l .i) h)) in
+    let x : n .nibble .result * 16 + c .nibble2 .result ≡ getD (hexBytes s) (l .i) 0 =
+    rw (n .nibble .ensures .0, c .nibble2 .ensures .0) (sym (hex-byte s (l .i) h)) in
     (omega arith, simp length-set (l .inv .1), put-start (now (a .out)) (hexBytes s) (l .i) (l .inv .2) x (omega arith) (omega arith))
 
 same-length : tie.Need-same-length Inv-loop μ-loop

@@ -37,7 +37,8 @@ loop-again : tie.Need-loop-again Inv-loop μ-loop
 loop-again c =
     let l = c .before .before .loop in
     let a = c .before .before .before .args in
-    (omega arith, simp length-set (l .inv .1), put-step (now (a .out)) (now (a .text)) (a .at) (l .i) (l .inv .2) refl (omega arith) (c .before .loop-test .taken))
+    let more = c .before .loop-test .taken in
+    (omega arith, simp length-set (l .inv .1), put-step (now (a .out)) (now (a .text)) (a .at) (l .i) (l .inv .2) refl (omega arith) more)
 
 same-length : tie.Need-same-length Inv-loop μ-loop
 same-length c = c .before .loop .inv .1

@@ -25,7 +25,9 @@ shared-slice-read-x : tie.Need-shared-slice-read-x Inv-loop μ-loop
 shared-slice-read-x c = omega arith
 
 -- the byte just read
-small : (c : tie.After-shared-slice-known2 Inv-loop μ-loop) → getD (now (c .before .before .before .before .before .args .bytes)) (c .before .before .loop .i) 0 < 256
+small : (c : tie.After-shared-slice-known2 Inv-loop μ-loop)
+    → let at-loop = c .before .before in
+    getD (now (at-loop .before .before .before .args .bytes)) (at-loop .loop .i) 0 < 256
 small c = omega (arith, c .shared-slice-known2 .given (c .before .before .loop .i))
 
 glyph-requires : tie.Need-glyph-requires Inv-loop μ-loop

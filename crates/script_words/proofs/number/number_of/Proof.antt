@@ -38,9 +38,10 @@ enum-told c = search needs
 returns-2 : tie.Need-returns-2 Inv-loop μ-loop
 returns-2 c =
     let n = c .before .before in
-    let l = n .before .before .before .loop in
-    let s = now (n .before .before .before .before .before .before .args .s) in
-    sym (l .inv .1 ∙ digit-none s (l .i) (l .value) (n .before .before .loop-test .taken) (sym (n .more .ensures) ∙ c .enum-told .given .1))
+    let entered = n .before .before in
+    let l = entered .before .loop in
+    let s = now (entered .before .before .before .before .args .s) in
+    sym (l .inv .1 ∙ digit-none s (l .i) (l .value) (entered .loop-test .taken) (sym (n .more .ensures) ∙ c .enum-told .given .1))
 
 add-i : tie.Need-add-i Inv-loop μ-loop
 add-i c = omega arith
@@ -51,9 +52,10 @@ loop-less c = omega arith
 loop-again : tie.Need-loop-again Inv-loop μ-loop
 loop-again c =
     let n = c .before .before .before in
-    let l = n .before .before .before .loop in
-    let s = now (n .before .before .before .before .before .before .args .s) in
-    (omega arith, l .inv .1 ∙ digit-more s (l .i) (l .value) (n .before .before .loop-test .taken) (sym (n .more .ensures) ∙ c .before .next .given .1))
+    let entered = n .before .before in
+    let l = entered .before .loop in
+    let s = now (entered .before .before .before .before .args .s) in
+    (omega arith, l .inv .1 ∙ digit-more s (l .i) (l .value) (entered .loop-test .taken) (sym (n .more .ensures) ∙ c .before .next .given .1))
 
 returns-3 : tie.Need-returns-3 Inv-loop μ-loop
 returns-3 c =

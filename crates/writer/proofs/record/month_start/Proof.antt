@@ -30,7 +30,12 @@ put-number-requires-3 c κs = search needs
 
 returns : tie.Need-returns
 returns c =
-    start-is (c .before .before .before .before .before .before .before .before .before .args .month) (c .before .before .before .before .before .before .before .put-number .last .0) (c .before .before .before .before .put-number2 .last .0) _ (c .before .before .before .before .before .before .before .put-number .ensures) (c .before .before .before .before .put-number2 .ensures) (c .before .put-number3 .ensures)
+    let day-put = c .before in
+    let month-put = day-put .before .before .before in
+    let year-put = month-put .before .before .before in
+    let month = year-put .before .before .args .month in
+    start-is month (year-put .put-number .last .0) (month-put .put-number2 .last .0) _
+    (year-put .put-number .ensures) (month-put .put-number2 .ensures) (day-put .put-number3 .ensures)
 
 pub month-start-spec : {M : Type 1} → statement M
 month-start-spec =

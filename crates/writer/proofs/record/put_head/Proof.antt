@@ -47,7 +47,8 @@ returns c =
     let p₁ = p₂ .before .before .before .before in
     let s = p₁ .before .before .before .before .before .before .before in
     let a = s .args in
-    head-placed (now (a .schedule)) (now (a .plant)) (now (a .start)) (now (a .rates)) (s .pre .schedule-long) (s .pre .plant-long) (s .pre .start-long) (now (a .out)) (a .at)
+    head-placed (now (a .schedule)) (now (a .plant)) (now (a .start)) (now (a .rates))
+    (s .pre .schedule-long) (s .pre .plant-long) (s .pre .start-long) (now (a .out)) (a .at)
     (p₁ .put .ensures) (p₂ .put2 .ensures) (p₃ .put3 .ensures) (n .put-number .ensures) (p₄ .put4 .ensures)
 
 pub put-head-spec : {M : Type 1} → statement M

@@ -34,13 +34,14 @@ same-length c = search needs
 
 returns : tie.Need-returns
 returns c =
-    let n = c .before .before in
-    let h = n .before .before .before .before in
-    let k = h .before .before .before in
-    let b = k .before .before in
-    let s = b .before .before .before .before .before in
+    let sum-put = c .before .before in
+    let head-put = sum-put .before .before .before .before in
+    let summed = head-put .before .before .before in
+    let started = summed .before .before in
+    let s = started .before .before .before .before .before in
     let a = s .args in
-    month-placed (now (a .out)) (now (a .schedule)) (now (a .plant)) (b .month-start .result) (now (a .rates)) (a .at) (a .month) (s .pre) (b .month-start .ensures) (k .checksum .ensures) (h .put-head .ensures) (n .put-number .ensures)
+    month-placed (now (a .out)) (now (a .schedule)) (now (a .plant)) (started .month-start .result) (now (a .rates)) (a .at) (a .month) (s .pre)
+    (started .month-start .ensures) (summed .checksum .ensures) (head-put .put-head .ensures) (sum-put .put-number .ensures)
 
 pub put-month-spec : {M : Type 1} → statement M
 put-month-spec =

@@ -30,8 +30,10 @@ mul-slots c = omega (arith, c .days-of-month .ensures, days-range (c .before .be
 
 add-to : tie.Need-add-to Inv-loop μ-loop
 add-to c =
-    let l = c .before .before .loop in
-    omega (arith, part-within (l .inv .0) (l .inv .1) _ (c .days-of-month .ensures) (c .before .loop-test .taken), c .before .before .before .before .before .before .before .good)
+    let entered = c .before in
+    let l = entered .before .loop in
+    let rates = entered .before .before .before .before .before .before in
+    omega (arith, part-within (l .inv .0) (l .inv .1) _ (c .days-of-month .ensures) (entered .loop-test .taken), rates .good)
 
 sub-put-month : tie.Need-sub-put-month Inv-loop μ-loop
 sub-put-month c = omega arith
@@ -59,9 +61,11 @@ add-place c = omega (arith, counted c .days-of-month .ensures, days-range (count
 add-place-2 : tie.Need-add-place-2 Inv-loop μ-loop
 add-place-2 c =
     let d = counted c in
-    let l = d .before .before .loop in
+    let entered = d .before in
+    let l = entered .before .loop in
     let g = l .inv .1 in
-    omega (arith, place-within (l .inv .0) g _ (d .days-of-month .ensures) (d .before .loop-test .taken), g .same, d .before .before .before .before .before .before .before .good)
+    let out = entered .before .before .before .before .before .before in
+    omega (arith, place-within (l .inv .0) g _ (d .days-of-month .ensures) (entered .loop-test .taken), g .same, out .good)
 
 add-month : tie.Need-add-month Inv-loop μ-loop
 add-month c =
@@ -76,7 +80,8 @@ loop-again c =
     let p = c .before .before in
     let d = counted c in
     let l = d .before .before .loop in
-    (l .inv .0, months-step (l .inv .0) (l .inv .1) _ (d .days-of-month .ensures) (d .before .loop-test .taken) (p .put-month .kept .0) (p .put-month .ensures))
+    let put = p .put-month in
+    (l .inv .0, months-step (l .inv .0) (l .inv .1) _ (d .days-of-month .ensures) (d .before .loop-test .taken) (put .kept .0) (put .ensures))
 
 same-length : tie.Need-same-length Inv-loop μ-loop
 same-length c = c .before .loop .inv .1 .same

@@ -37,20 +37,21 @@ put-requires c κs = search needs
 
 same-length : tie.Need-same-length
 same-length c =
-    let p = c .before .before in
-    let n = p .before .before .before .before in
-    let h = n .before .before .before .before in
-    p .put .kept .0 ∙ n .put-number .kept .0 ∙ simp length-set (h .put-head .kept .0)
+    let next-put = c .before .before in
+    let sum-put = next-put .before .before .before .before in
+    let head-put = sum-put .before .before .before .before in
+    next-put .put .kept .0 ∙ sum-put .put-number .kept .0 ∙ simp length-set (head-put .put-head .kept .0)
 
 returns : tie.Need-returns
 returns c =
-    let p = c .before .before in
-    let n = p .before .before .before .before in
-    let h = n .before .before .before .before in
-    let k = h .before .before in
-    let s = k .before .before .before .before .before .before .before in
+    let next-put = c .before .before in
+    let sum-put = next-put .before .before .before .before in
+    let head-put = sum-put .before .before .before .before in
+    let summed = head-put .before .before in
+    let s = summed .before .before .before .before .before .before .before in
     let a = s .args in
-    update-placed (now (a .out)) (now (a .schedule)) (now (a .plant)) (now (a .start)) (now (a .next)) (now (a .rates)) (a .at) (a .flag) (s .pre) (k .checksum .ensures) (h .put-head .ensures) (n .put-number .ensures) (p .put .ensures)
+    update-placed (now (a .out)) (now (a .schedule)) (now (a .plant)) (now (a .start)) (now (a .next)) (now (a .rates)) (a .at) (a .flag) (s .pre)
+    (summed .checksum .ensures) (head-put .put-head .ensures) (sum-put .put-number .ensures) (next-put .put .ensures)
 
 pub put-update-spec : {M : Type 1} → statement M
 put-update-spec =

@@ -16,12 +16,12 @@ use Rattle.rules.specs.declared.Format.{Format}
 use Rattle.rules.specs.Reading.{readingOf}
 use Rattle.rules.specs.declared.Reading.{Reading}
 use Rattle.rules.specs.declared.Reading.the-variants.{Refused}
+use Rattle.laws.proofs.Tests.{both}
 use Rattle.body.specs.Reading.{nameOf}
 use Rattle.body.proofs.Outcomes.{created-free}
 use Rattle.name.specs.Read.{plantDigits}
 use Rattle.name.specs.declared.Fields.{Fields}
 use Rattle.name.proofs.Laws.{Read, parsed, plant-is}
-use Rattle.name.proofs.Ascii.{both}
 use Rattle.about_files.proofs.Numerals.{decimal-value}
 use Rattle.transfer.specs.Under.{underName, forPlant}
 
@@ -55,10 +55,14 @@ module _ (name body : List ℕ) (f : Fields) (read : Read (parseName name) f) wh
   n = read .name
 
   below : (b : Option Body) → readingOf (withBody (nameOf (f .format) (f .segment) (plantDigits name)) b) ≡ readingOf (withBody n b)
-  below b = under n (f .format) (f .segment) (plantDigits name) b (read .format) (read .segment) (plant-is name n (read .found)) (parsed name n (read .found) .segment)
+  below b =
+      under n (f .format) (f .segment) (plantDigits name) b (read .format) (read .segment)
+      (plant-is name n (read .found))
+      (parsed name n (read .found) .segment)
 
   -- the stages from the body on, for a name whose ID fits
-  named : (plant : Option (List ℕ)) → idFits plant (n .plant) ≡ true → readingOf (readFile plant name body) ≡ readingOf (withBody n (parseBody (n .format) body))
+  named : (plant : Option (List ℕ)) → idFits plant (n .plant) ≡ true
+      → readingOf (readFile plant name body) ≡ readingOf (withBody n (parseBody (n .format) body))
   unfolding readFile
   named plant e = rw (read .found, e)
 

@@ -16,9 +16,9 @@ use Rattle.rules.specs.Name.{anySegment}
 use Rattle.rules.specs.Writer.{Output, refuse, bytes, writtenOf, bufferAfter}
 use Rattle.rules.specs.declared.Cause.{Cause}
 use Rattle.rules.specs.declared.Written.{Written}
-use Rattle.name.proofs.Ascii.{both}
 use Rattle.name.proofs.Laws.{segment-length}
 use Rattle.rules.specs.Request.{request, requestBytes, plantParameter, macParameter, segmentParameter}
+use Rattle.laws.proofs.Tests.{both}
 use Rattle.request.specs.Parts.{Parts}
 
 -- ---- a loop that writes bytes b into d from place k on
@@ -141,7 +141,8 @@ module _ (id mac segment : List ℕ) (room : ℕ) where
 pub answered : {o o′ : Output} (d : List ℕ) → o ≡ o′ → (writtenOf o′ ≡ writtenOf o) × (bufferAfter o′ d ≡ bufferAfter o d)
 answered d e = (ap writtenOf (sym e), ap (λ (x : Output). bufferAfter x d) (sym e))
 
-pub finished : {o : Output} {b out : List ℕ} (d : List ℕ) → o ≡ bytes b → length b ≡ 84 → out ≡ b ++ drop 84 d → (Written.Length 84 ≡ writtenOf o) × (out ≡ bufferAfter o d)
+pub finished : {o : Output} {b out : List ℕ} (d : List ℕ) → o ≡ bytes b → length b ≡ 84 → out ≡ b ++ drop 84 d
+    → (Written.Length 84 ≡ writtenOf o) × (out ≡ bufferAfter o d)
 finished {b = b} d e l w =
     let seen = answered d e in
     (ap Written.Length (sym l) ∙ seen .0, w ∙ ap (λ (k : ℕ). b ++ drop k d) (sym l) ∙ seen .1)
