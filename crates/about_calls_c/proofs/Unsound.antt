@@ -14,7 +14,7 @@ use Rattle.unit.specs.Calls.{tickOf, lostOf, failureOf, dueOf, ceilingOf as cei
 use Rattle.unit.specs.Request.{requestOf}
 use Rattle.taking.specs.Taken.{takeOf, storeAfterTake}
 use Rattle.c_structs.specs.Held.{opened, handed}
-use Rattle.c_structs.specs.declared.structs.HeldUnit.{HeldUnit}
+use Rattle.c_structs.specs.declared.HeldUnit.{HeldUnit}
 use Rattle.about_calls_c.specs.Lists.{HeldState, heldStep, heldReplies, heldAfter}
 use Rattle.about_calls_c.specs.FromC.{AllRefused}
 use Rattle.about_calls.specs.Theorem.{unsoundReply}

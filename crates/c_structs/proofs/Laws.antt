@@ -10,7 +10,7 @@ use Rattle.rules.specs.declared.Cause.{Cause}
 use Rattle.unit.specs.declared.Done.{Done}
 use Rattle.unit.specs.declared.Clock.the-variants.{Unset, At}
 use Rattle.c_structs.specs.Held.{never, clockFrom, shutOf, handed}
-use Rattle.c_structs.specs.declared.structs.HeldUnit.{HeldUnit}
+use Rattle.c_structs.specs.declared.HeldUnit.{HeldUnit}
 
 module _ (mark second : ℕ) where
   pub clock-set : mark ≡ 1 → At second ≡ clockFrom mark second
