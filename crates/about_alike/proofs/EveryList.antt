@@ -1,4 +1,4 @@
--- A list of calls on every pool and store that show one view: one list of replies, and one view afterwards. By induction over the list. Assumes nothing.
+-- A list of calls on every pool and store that show one view: one list of replies, and one view afterwards. By induction over the list.
 use mathlib.Core.Path.{_≡_, refl, ap, _∙_}
 use mathlib.Core.List.{List, [], _∷_}
 use Rattle.rules.specs.Causes.{Reply}

@@ -1,4 +1,4 @@
--- Every law of specs/Alike, proved: this is the file to cite. Assumes nothing.
+-- Every law of specs/Alike, proved: this is the file to cite.
 use Prim.Native.Nat.{ℕ, _*_, _≤_}
 use mathlib.Core.Path.{_≡_, refl, sym, ap, _∙_, subst, subst₂}
 use mathlib.Core.Bool.{true, false≢true, and-false}

@@ -1,4 +1,4 @@
--- A call on every pool and store that show one view: one reply, and one view afterwards. Assumes nothing.
+-- A call on every pool and store that show one view: one reply, and one view afterwards.
 use Prim.Native.Nat.{ℕ, _*_, _≤_}
 use mathlib.Core.Path.{_≡_}
 use mathlib.Core.Bool.{true}

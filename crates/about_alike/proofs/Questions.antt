@@ -1,4 +1,4 @@
--- The outcome of each question, of a lost clock and of a reported failure. Assumes nothing.
+-- The outcome of each question, of a lost clock and of a reported failure.
 use Prim.Native.Nat.{ℕ, _-_}
 use mathlib.Core.Path.{_≡_, refl, sym, ap, _∙_}
 use mathlib.Core.Bool.{Bool, true, false}

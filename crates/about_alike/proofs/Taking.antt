@@ -1,4 +1,4 @@
--- The outcome of a file: there is room for it in all that show one view or in none, and its records are put alike. Assumes nothing.
+-- The outcome of a file: there is room for it in all that show one view or in none, and its records are put alike.
 use Prim.Native.Nat.{ℕ, _-_, _<_}
 use mathlib.Core.Path.{_≡_, refl, sym, ap, _∙_}
 use mathlib.Core.Bool.{Bool, true, false}

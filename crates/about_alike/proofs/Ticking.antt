@@ -1,4 +1,4 @@
--- The outcome of a tick: the floor rises for all that show one view, and the command moves alike. Assumes nothing.
+-- The outcome of a tick: the floor rises for all that show one view, and the command moves alike.
 use Prim.Native.Nat.{ℕ, zero, suc, _+_, _-_, _*_, _≤_, _<_}
 use mathlib.Core.Path.{_≡_, refl, ap, _∙_}
 use mathlib.Core.Bool.{Bool, true, false, cond}

@@ -1,5 +1,4 @@
 -- The view of a sound pool and store, which another with the same months and bytes has too. It may hold a month that no file gave a rate.
--- Assumes nothing.
 use Prim.Native.Nat.{ℕ, _+_, _-_, _^_, _≤_, _<_, _*_}
 use mathlib.Core.Path.{_≡_, refl, sym, ap, _∙_}
 use mathlib.Core.Logic.{_↔_}

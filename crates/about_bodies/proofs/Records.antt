@@ -1,5 +1,4 @@
 -- The records that `locate` and `field_part` speak of are those that reading has.
--- Assumes nothing.
 use Prim.Native.Nat.{ℕ}
 use mathlib.Core.Path.{_≡_, _∙_, refl, sym, ap}
 use mathlib.Core.List.{List}

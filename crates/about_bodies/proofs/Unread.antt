@@ -1,5 +1,4 @@
 -- Of a 201 or 202 the writer looks at neither flag nor next access.
--- Assumes nothing.
 use Prim.Native.Nat.{ℕ}
 use mathlib.Core.Path.{_≡_, _∙_, refl, sym}
 use mathlib.Core.Bool.{Bool, true, false, _||_, or-true, false≢true}

@@ -1,5 +1,4 @@
 -- What `write_body` wrote, read and taken apart, is the fields that it was given.
--- Assumes nothing.
 use Prim.Native.Nat.{ℕ, zero, suc, _≤_, _<_}
 use mathlib.Core.Path.{_≡_, _∙_, refl, sym, ap, subst}
 use mathlib.Core.Bool.{true}

@@ -1,5 +1,4 @@
 -- A body that C reads, takes apart and writes again is itself.
--- Assumes nothing.
 use Prim.Native.Nat.{ℕ, zero, suc, _≤_, _<_}
 use mathlib.Core.Path.{_≡_, _∙_, refl, sym, ap, subst}
 use mathlib.Core.Bool.{true, false≢true}
@@ -29,10 +28,10 @@ use Rattle.records.specs.Locating.{locate}
 use Rattle.records.specs.Reading.{fieldIn, recordIn, ratesOutput}
 use Rattle.records.specs.declared.Located.{Located}
 use Rattle.records.specs.declared.Field.the-variants.{Schedule, Plant, Start, Next}
-use Rattle.c_structs.specs.Answers.{fileNumbers, writtenNumbers}
-use Rattle.c_structs.specs.Places.{placesNumbers}
-use Rattle.c_structs.specs.declared.places.RecordPlaces.{RecordPlaces}
-use Rattle.jagwelu.specs.Bodies.{locateBy, ratesBy}
+use Rattle.c_answers.specs.Answers.{fileNumbers, writtenNumbers}
+use Rattle.c_bodies.specs.Places.{placesNumbers}
+use Rattle.c_bodies.specs.declared.RecordPlaces.{RecordPlaces}
+use Rattle.c_bodies.specs.Bodies.{locateBy, ratesBy}
 use Rattle.about_bodies.specs.Again.{fieldsAgain}
 use Rattle.about_bodies.proofs.Records.{places-found, places-hold}
 use Rattle.about_bodies.proofs.Unread.{not-looked-at}

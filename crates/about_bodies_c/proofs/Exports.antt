@@ -1,4 +1,4 @@
--- Each exported contract about files says what the theorems speak of: where one in crates/jagwelu is changed, this is refused. Assumes nothing.
+-- Each exported contract about files says what the theorems speak of: where one in crates/jagwelu is changed, this is refused.
 use Rattle.about_bodies_c.specs.Exports.{FilesSay, FilesAsk}
 
 pub files-say : FilesSay

@@ -11,11 +11,11 @@ use Rattle.rules.specs.File.{readFile}
 use Rattle.rules.specs.Writer.{Fields, writtenOf, bufferAfter, writeBody}
 use Rattle.rules.specs.Reading.{readingOf}
 use Rattle.plan.specs.Fields.{fieldsOf}
-use Rattle.c_structs.specs.Answers.{fileNumbers, writtenNumbers}
-use Rattle.c_structs.specs.Places.{placesNumbers}
-use Rattle.c_structs.specs.declared.answers.FileAnswer.{FileAnswer}
-use Rattle.c_structs.specs.declared.places.RecordPlaces.{RecordPlaces}
-use Rattle.jagwelu.specs.Bodies.{locateBy, ratesBy}
+use Rattle.c_answers.specs.Answers.{fileNumbers, writtenNumbers}
+use Rattle.c_bodies.specs.Places.{placesNumbers}
+use Rattle.c_answers.specs.declared.FileAnswer.{FileAnswer}
+use Rattle.c_bodies.specs.declared.RecordPlaces.{RecordPlaces}
+use Rattle.c_bodies.specs.Bodies.{locateBy, ratesBy}
 
 -- what `jag_record` answers: x is what `jag_read` answered
 abbrev pub places : FileAnswer → List ℕ → ℕ → RecordPlaces

@@ -13,13 +13,13 @@ use Rattle.rules.specs.Reading.{readingOf}
 use Rattle.rules.specs.Writer.{writtenOf, bufferAfter, writeBody}
 use Rattle.rules.specs.ErrorFile.{errorCode, codeOf}
 use Rattle.plan.specs.Fields.{fieldsOf}
-use Rattle.c_structs.specs.Answers.{fileNumbers, writtenNumbers, errorNumbers}
-use Rattle.c_structs.specs.Places.{placesNumbers}
-use Rattle.c_structs.specs.declared.answers.FileAnswer.{FileAnswer}
-use Rattle.c_structs.specs.declared.answers.WrittenBytes.{WrittenBytes}
-use Rattle.c_structs.specs.declared.answers.ErrorAnswer.{ErrorAnswer}
-use Rattle.c_structs.specs.declared.places.RecordPlaces.{RecordPlaces}
-use Rattle.jagwelu.specs.Bodies.{locateBy, ratesBy}
+use Rattle.c_answers.specs.Answers.{fileNumbers, writtenNumbers, errorNumbers}
+use Rattle.c_bodies.specs.Places.{placesNumbers}
+use Rattle.c_answers.specs.declared.FileAnswer.{FileAnswer}
+use Rattle.c_answers.specs.declared.WrittenBytes.{WrittenBytes}
+use Rattle.c_answers.specs.declared.ErrorAnswer.{ErrorAnswer}
+use Rattle.c_bodies.specs.declared.RecordPlaces.{RecordPlaces}
+use Rattle.c_bodies.specs.Bodies.{locateBy, ratesBy}
 use Rattle.jagwelu.proofs.jag_read.Reads as jag-read
 use Rattle.jagwelu.proofs.jag_read_for.Reads as jag-read-for
 use Rattle.jagwelu.proofs.jag_record.Reads as jag-record

@@ -1,4 +1,4 @@
--- The contract of `calls::step` is the unit's step: where that contract is changed, this is refused. Assumes nothing.
+-- The contract of `calls::step` is the unit's step: where that contract is changed, this is refused.
 use Prim.Native.Nat.{ℕ}
 use mathlib.Core.Path.{ap₂, _∙_}
 use mathlib.Core.List.{List}

@@ -1,4 +1,4 @@
--- A unit that is not sound: every call is refused, with unit and store as they were. Assumes nothing.
+-- A unit that is not sound: every call is refused, with unit and store as they were.
 use mathlib.Core.Path.{_≡_, refl, ap, _∙_}
 use mathlib.Core.Bool.{Bool, true, false, cond, not, _&&_}
 use mathlib.Core.List.{List, [], _∷_, map}

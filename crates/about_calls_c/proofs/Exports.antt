@@ -1,10 +1,10 @@
--- Each exported contract is the step from C: where a contract in crates/jagwelu is changed, this is refused. Assumes nothing.
+-- Each exported contract is the step from C: where a contract in crates/jagwelu is changed, this is refused.
 use mathlib.Core.Path.{ap, ap₂}
 use denote.Ref.{now}
-use Rattle.c_structs.specs.declared.structs.Handed.{Handed}
-use Rattle.c_structs.specs.declared.answers.Number.{Number}
-use Rattle.c_structs.specs.declared.answers.DueAnswer.{DueAnswer}
-use Rattle.c_structs.specs.declared.answers.CeilingAnswer.{CeilingAnswer}
+use Rattle.c_structs.specs.declared.Handed.{Handed}
+use Rattle.c_answers.specs.declared.Number.{Number}
+use Rattle.c_answers.specs.declared.DueAnswer.{DueAnswer}
+use Rattle.c_answers.specs.declared.CeilingAnswer.{CeilingAnswer}
 use Rattle.about_calls_c.specs.Lists.{handedStep, dueMeans, ceilingMeans, commandMeans, blocksMeans, heldStep}
 use Rattle.about_calls_c.specs.Exports.{heldWith, ExportsSay, ExportsAsk}
 

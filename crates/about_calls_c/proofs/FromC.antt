@@ -1,4 +1,4 @@
--- The theorem for C: the unit's, and the list from C is the unit's; from jag_install on, accepted or refused. Assumes nothing.
+-- The theorem for C: the unit's, and the list from C is the unit's; from jag_install on, accepted or refused.
 use Prim.Native.Nat.{ℕ}
 use mathlib.Core.Path.{_≡_, refl, ap, _∙_}
 use mathlib.Core.Bool.{true, false}

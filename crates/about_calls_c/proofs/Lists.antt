@@ -1,4 +1,4 @@
--- A list of calls from C is the unit's own: call by call, then over the list. Assumes nothing.
+-- A list of calls from C is the unit's own: call by call, then over the list.
 use Prim.Native.Nat.{ℕ}
 use mathlib.Core.Path.{_≡_, refl, sym, ap, _∙_}
 use mathlib.Core.Bool.{Bool, true, false, false≢true}
@@ -24,7 +24,7 @@ use Rattle.taking.specs.Taken.{taken, takeRows, takeOf, storeAfterTake}
 use Rattle.calls.specs.Step.{State, stepDone, step, replies, after}
 use Rattle.unit.specs.declared.Unit.{Unit}
 use Rattle.c_structs.specs.Held.{opened, shutOf, handed}
-use Rattle.c_structs.specs.Answers.{dueNumbers, ceilingNumbers, commandNumber, blocksNumber}
+use Rattle.c_answers.specs.Answers.{dueNumbers, ceilingNumbers, commandNumber, blocksNumber}
 use Rattle.about_calls_c.specs.Lists.{asRefused, dueMeans, ceilingMeans, commandMeans, blocksMeans, handedStep, heldStep, heldReplies, heldAfter, shutState, SameFromC}
 use Rattle.c_structs.proofs.Handing.{unit-back, no-unit, sound-kept, wide-held}
 use Rattle.about_calls.proofs.Unsound.{unsound-step}

@@ -1,4 +1,4 @@
--- A struct that stands for a unit that is not sound: every call is refused, with struct and store as they were. Assumes nothing.
+-- A struct that stands for a unit that is not sound: every call is refused, with struct and store as they were.
 use Prim.Native.Nat.{ℕ}
 use mathlib.Core.Path.{_≡_, refl, ap}
 use mathlib.Core.Bool.{Bool, true, false}
@@ -14,7 +14,7 @@ use Rattle.unit.specs.Calls.{tickOf, lostOf, failureOf, dueOf, ceilingOf as cei
 use Rattle.unit.specs.Request.{requestOf}
 use Rattle.taking.specs.Taken.{takeOf, storeAfterTake}
 use Rattle.c_structs.specs.Held.{opened, handed}
-use Rattle.c_structs.specs.declared.structs.HeldUnit.{HeldUnit}
+use Rattle.c_structs.specs.declared.HeldUnit.{HeldUnit}
 use Rattle.about_calls_c.specs.Lists.{HeldState, heldStep, heldReplies, heldAfter}
 use Rattle.about_calls_c.specs.FromC.{AllRefused}
 use Rattle.about_calls.specs.Theorem.{unsoundReply}

@@ -13,14 +13,14 @@ use Rattle.rules.specs.Writer.{writtenOf, bufferAfter}
 use Rattle.rules.specs.declared.Kind.{Kind}
 use Rattle.unit.specs.Request.{requestOf}
 use Rattle.c_structs.specs.Held.{settingsIn, opened}
-use Rattle.c_structs.specs.Answers.{writtenNumbers}
-use Rattle.c_structs.specs.declared.structs.HeldSettings.{HeldSettings}
-use Rattle.c_structs.specs.declared.structs.HeldUnit.{HeldUnit}
-use Rattle.c_structs.specs.declared.structs.Handed.{Handed}
-use Rattle.c_structs.specs.declared.answers.Number.{Number}
-use Rattle.c_structs.specs.declared.answers.DueAnswer.{DueAnswer}
-use Rattle.c_structs.specs.declared.answers.CeilingAnswer.{CeilingAnswer}
-use Rattle.c_structs.specs.declared.answers.WrittenBytes.{WrittenBytes}
+use Rattle.c_answers.specs.Answers.{writtenNumbers}
+use Rattle.c_structs.specs.declared.HeldSettings.{HeldSettings}
+use Rattle.c_structs.specs.declared.HeldUnit.{HeldUnit}
+use Rattle.c_structs.specs.declared.Handed.{Handed}
+use Rattle.c_answers.specs.declared.Number.{Number}
+use Rattle.c_answers.specs.declared.DueAnswer.{DueAnswer}
+use Rattle.c_answers.specs.declared.CeilingAnswer.{CeilingAnswer}
+use Rattle.c_answers.specs.declared.WrittenBytes.{WrittenBytes}
 use Rattle.jagwelu.specs.Check.{checkNumber}
 use Rattle.about_calls_c.specs.Lists.{HeldState, handedStep, dueMeans, ceilingMeans, commandMeans, blocksMeans, heldStep, heldInstall}
 use Rattle.jagwelu.proofs.jag_install.Reads as jag-install

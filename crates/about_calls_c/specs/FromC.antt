@@ -13,7 +13,7 @@ use Rattle.calls.specs.Step.{after}
 use Rattle.unit.specs.Values.{isSound}
 use Rattle.unit.specs.Request.{requestOf}
 use Rattle.c_structs.specs.Held.{opened}
-use Rattle.c_structs.specs.declared.structs.HeldUnit.{HeldUnit}
+use Rattle.c_structs.specs.declared.HeldUnit.{HeldUnit}
 use Rattle.about_calls_c.specs.Lists.{HeldState, shutState, heldInstall, heldReplies, heldAfter}
 use Rattle.about_calls.specs.Theorem.{fresh, told, Holds, toldBy, unsoundReply}
 

@@ -13,12 +13,12 @@ use Rattle.taking.specs.Taken.{takeOf, storeAfterTake}
 use Rattle.calls.specs.Step.{State, replies, after}
 use Rattle.unit.specs.Values.{installedUnit}
 use Rattle.c_structs.specs.Held.{opened, shutOf, handed, newly}
-use Rattle.c_structs.specs.Answers.{dueNumbers, ceilingNumbers, commandNumber, blocksNumber}
-use Rattle.c_structs.specs.declared.structs.HeldUnit.{HeldUnit}
-use Rattle.c_structs.specs.declared.structs.Handed.{Handed}
-use Rattle.c_structs.specs.declared.answers.Number.{Number}
-use Rattle.c_structs.specs.declared.answers.DueAnswer.{DueAnswer}
-use Rattle.c_structs.specs.declared.answers.CeilingAnswer.{CeilingAnswer}
+use Rattle.c_answers.specs.Answers.{dueNumbers, ceilingNumbers, commandNumber, blocksNumber}
+use Rattle.c_structs.specs.declared.HeldUnit.{HeldUnit}
+use Rattle.c_structs.specs.declared.Handed.{Handed}
+use Rattle.c_answers.specs.declared.Number.{Number}
+use Rattle.c_answers.specs.declared.DueAnswer.{DueAnswer}
+use Rattle.c_answers.specs.declared.CeilingAnswer.{CeilingAnswer}
 
 -- ---- C's numbers as 01's answers: a cause that is not 0 is a refusal
 

@@ -1,5 +1,4 @@
 -- What an accepted file is: the one place to cite for whoever needs something of a file that was read or taken.
--- Assumes nothing.
 use Prim.Native.Nat.{ℕ, _+_, _*_, _≤_}
 use mathlib.Core.Path.{_≡_, _∙_, refl, sym, ap}
 use mathlib.Core.Bool.{true, false, false≢true}

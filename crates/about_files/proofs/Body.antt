@@ -1,5 +1,4 @@
 -- The records and the whole body: what is parsed as a body is exactly the bytes of one that has the format's form.
--- Assumes nothing.
 use Prim.Native.Nat.{ℕ, zero, suc, _+_, _^_, _<_}
 use mathlib.Core.Path.{_≡_, _∙_, refl, sym, ap, ap₂}
 use mathlib.Core.Bool.{Bool, true, false, _&&_, false≢true}

@@ -1,5 +1,4 @@
 -- Dates in digits: the start of a month, what its digits say, and that no other digits say it; the slots of consecutive months.
--- Assumes nothing.
 use Prim.Native.Nat.{ℕ, zero, suc, _+_, _-_, _/_, _%_, _≤_, _<_}
 use mathlib.Core.Path.{_≡_, refl, ap}
 use mathlib.Core.Bool.{Bool, true, false, _&&_}

@@ -1,5 +1,4 @@
 -- The numbers of the causes: no two have the same, none is 0 and none has three digits. One computed test over the enum's variants, in their order.
--- Assumes nothing.
 use Prim.Native.Nat.{ℕ, suc, _<_, _≤_}
 use mathlib.Core.Path.{_≡_, _∙_, refl, sym, ap}
 use mathlib.Core.Bool.{Bool, true, false, _&&_, false≢true}

@@ -1,5 +1,4 @@
 -- The start of a month as digits: what they say, and that no other digits say it.
--- Assumes nothing.
 use Prim.Native.Nat.{ℕ, _+_, _-_, _/_, _%_, _≤_, _<_}
 use mathlib.Core.Path.{_≡_, _∙_, refl, sym, ap}
 use mathlib.Core.Bool.{true}

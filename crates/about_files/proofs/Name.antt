@@ -1,5 +1,4 @@
 -- The name: what is parsed as a name is exactly the bytes of a lawful one.
--- Assumes nothing.
 use Prim.Native.Nat.{ℕ, _+_, _^_, _≤_, _<_}
 use mathlib.Core.Path.{_≡_, _∙_, refl, sym, ap}
 use mathlib.Core.Bool.{Bool, true, false}

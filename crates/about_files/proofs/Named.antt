@@ -1,5 +1,4 @@
 -- Every body that is written has a name to be read with, and its length is known from the format and the rates.
--- Assumes nothing.
 use Prim.Native.Nat.{ℕ, _+_, _*_, _/_, _%_, _<_}
 use mathlib.Core.Path.{_≡_, _∙_, refl, sym, ap, ap₂}
 use mathlib.Core.Bool.{true, false≢true}

@@ -1,5 +1,4 @@
 -- `decimal` and `value` are inverse to each other, and digits in ASCII are read back as they were.
--- Assumes nothing.
 use Prim.Native.Nat.{ℕ, zero, suc, _+_, _-_, _*_, _/_, _%_, _^_, _≤_, _<_}
 use mathlib.Core.Path.{_≡_, _∙_, refl, sym, ap, ap₂}
 use mathlib.Core.Bool.{Bool, true, _&&_, and-assoc}

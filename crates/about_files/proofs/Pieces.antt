@@ -1,5 +1,4 @@
 -- Parts of a byte string: where they begin and end, and how they join.
--- Assumes nothing.
 use Prim.Native.Nat.{ℕ, _+_}
 use mathlib.Core.Path.{_≡_, _∙_, refl, sym, ap, subst}
 use mathlib.Core.Bool.{true}

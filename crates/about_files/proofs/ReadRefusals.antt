@@ -1,5 +1,4 @@
 -- The reader gives the lowest cause that applies, and a file exactly when none does.
--- Assumes nothing.
 use Prim.Native.Nat.{ℕ}
 use mathlib.Core.Path.{_≡_, _∙_, refl, sym, ap, ap₂}
 use mathlib.Core.Bool.{Bool, true, false, cond, not, _||_}

@@ -1,5 +1,4 @@
 -- Reading is exact: the theorem and what follows from it.
--- Assumes nothing.
 use Prim.Native.Nat.{ℕ}
 use mathlib.Core.Path.{_≡_, _∙_, refl, sym, ap}
 use mathlib.Core.Bool.{Bool, true, false, not, false≢true, Bool·not-not}

@@ -1,5 +1,4 @@
 -- One record: what stands at the front of a byte string is a record exactly when it is the bytes of one.
--- Assumes nothing.
 use Prim.Native.Nat.{ℕ, _+_, _^_, _≤_, _<_}
 use mathlib.Core.Path.{_≡_, _∙_, refl, ap}
 use mathlib.Core.Bool.{true}

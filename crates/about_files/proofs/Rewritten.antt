@@ -1,5 +1,4 @@
 -- A body whose records share a schedule ID, read and written, is itself.
--- Assumes nothing.
 use Prim.Native.Nat.{ℕ, suc, _+_, _-_, _≤_}
 use mathlib.Core.Path.{_≡_, _∙_, refl, sym, ap, ap₂}
 use mathlib.Core.Bool.{Bool, true, false, _&&_, _||_, false≢true, or-true}

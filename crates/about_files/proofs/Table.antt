@@ -1,5 +1,4 @@
 -- The first row that applies is the lowest: `first-lowest` and `first-none`, of any rows whose places rise.
--- Assumes nothing.
 use Prim.Native.Nat.{ℕ, suc, _<_}
 use mathlib.Core.Path.{_≡_, _∙_, refl, sym, ap, subst}
 use mathlib.Core.Bool.{Bool, true, false, cond, _&&_, _||_, false≢true}

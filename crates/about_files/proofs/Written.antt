@@ -1,5 +1,4 @@
 -- What the writer writes is a lawful file, reads back as that file, and has the fields that it was written from.
--- Assumes nothing.
 use Prim.Native.Nat.{ℕ, suc, _+_, _-_, _≤_}
 use mathlib.Core.Path.{_≡_, _∙_, refl, sym, ap}
 use mathlib.Core.Bool.{Bool, true, false, _&&_, _||_, false≢true, or-false}

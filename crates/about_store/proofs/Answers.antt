@@ -1,5 +1,5 @@
 -- What pool and store answer where they agree with the machine: the rate of a slot, the free blocks, whether a file fits, and that
--- they are sound. Assumes nothing.
+-- they are sound.
 use mathlib.Core.Path.{_≡_, sym, ap, _∙_}
 use mathlib.Core.Bool.{true}
 use Prim.Native.Nat.{ℕ, _+_, _-_, _≤_, _<_}

@@ -1,4 +1,4 @@
--- What a reader of the agreement wants: held months and their blocks in 01's words. Assumes nothing.
+-- What a reader of the agreement wants: held months and their blocks in 01's words.
 use mathlib.Core.Path.{_≡_, refl, sym, ap, _∙_}
 use mathlib.Core.Bool.{Bool, true, false, cond, not, _&&_, Bool·beq}
 use mathlib.Core.List.{_∷_, map}

@@ -1,4 +1,4 @@
--- Laws of a store after a run of stores in one block, seen from that block and from another. Assumes nothing.
+-- Laws of a store after a run of stores in one block, seen from that block and from another.
 use mathlib.Core.Path.{_≡_, refl, _∙_}
 use mathlib.Core.Logic.{_⊎_, inl, inr, _≢_}
 use mathlib.Core.Bool.{Bool, true, false, cond, _&&_}

@@ -1,4 +1,4 @@
--- Laws of the machine's count of the months that pass a test, and of the length of a list of months. Assumes nothing.
+-- Laws of the machine's count of the months that pass a test, and of the length of a list of months.
 use mathlib.Core.Path.{_≡_, refl, sym, ap, ap₂, _∙_}
 use mathlib.Core.Logic.{_⊎_, inl, inr, ⊎-elim}
 use mathlib.Core.Bool.{Bool, true, false, _||_, false≢true, or-true, not, _&&_}

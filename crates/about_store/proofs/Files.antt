@@ -1,5 +1,4 @@
 -- Laws of the machine's list of files: what one file more does to its rates and its held months, and when a slot has no rate.
--- Assumes nothing.
 use mathlib.Core.Path.{_≡_, refl, sym, _∙_}
 use mathlib.Core.Bool.{Bool, true, false, cond, not, _&&_, _||_, true≢false, and-false, or-false, or-assoc}
 use mathlib.Core.List.{List, [], _∷_, _++_}

@@ -1,5 +1,4 @@
 -- Laws of the pool beyond its own: which blocks hold which months after one is given or some are released, and how many are free.
--- Assumes nothing.
 use mathlib.Core.Path.{_≡_, refl, sym, ap, _∙_}
 use mathlib.Core.Logic.{_⊎_, inl, inr, _↔_}
 use mathlib.Core.Bool.{Bool, true, false, not, _&&_, false≢true, and-true}

@@ -1,4 +1,4 @@
--- Every law of specs/Laws, proved: this is the file to cite. Assumes nothing.
+-- Every law of specs/Laws, proved: this is the file to cite.
 use Rattle.about_store.specs.Laws.{
   FreshAgrees,
   SameAgrees,

@@ -1,4 +1,4 @@
--- Records of whole months (201, 202) follow each other, one month a record. Assumes nothing.
+-- Records of whole months (201, 202) follow each other, one month a record.
 use mathlib.Core.Path.{_≡_, refl, sym, ap, ap₂, _∙_, subst}
 use mathlib.Core.Bool.{Bool, true, false}
 use mathlib.Core.List.{List, [], _∷_, _++_}

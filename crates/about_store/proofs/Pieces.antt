@@ -1,4 +1,4 @@
--- A run of rates as two pieces, of its first month and of the next: they cover the run's slots and no others. Assumes nothing.
+-- A run of rates as two pieces, of its first month and of the next: they cover the run's slots and no others.
 use mathlib.Core.Path.{_≡_, refl, ap, _∙_}
 use mathlib.Core.Bool.{Bool, true, _&&_}
 use mathlib.Core.List.{List}

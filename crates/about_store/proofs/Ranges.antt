@@ -1,4 +1,4 @@
--- Numbers from one up to another, and runs of slots that meet. Assumes nothing.
+-- Numbers from one up to another, and runs of slots that meet.
 use mathlib.Core.Path.{_≡_, refl, sym}
 use mathlib.Core.Bool.{Bool, true, false, not, _&&_}
 use Prim.Native.Nat.{ℕ, _≤_, _<_, min, max}

@@ -1,5 +1,4 @@
 -- What a file's records, put in order, do to the view of pool and store, and that the machine's list of files says the same.
--- Assumes nothing.
 use mathlib.Core.Path.{_≡_, refl, sym, _∙_}
 use mathlib.Core.Bool.{Bool, true, false, cond, _&&_, _||_, and-false, or-true}
 use mathlib.Core.List.{List, [], _∷_}

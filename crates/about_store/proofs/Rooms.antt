@@ -1,4 +1,4 @@
--- Whether there is room for a file's records, and that they leave rates of 0 to 100: by the view alone. Assumes nothing.
+-- Whether there is room for a file's records, and that they leave rates of 0 to 100: by the view alone.
 use mathlib.Core.Path.{_≡_, refl, sym, ap, _∙_}
 use mathlib.Core.Logic.{⊎-elim}
 use mathlib.Core.Bool.{Bool, true, false, cond, not, _&&_, _||_}

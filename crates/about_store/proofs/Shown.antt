@@ -1,4 +1,4 @@
--- What every pool and store with one view have in common, and what releasing blocks does to the view: no list of files is seen here. Assumes nothing.
+-- What every pool and store with one view have in common, and what releasing blocks does to the view: no list of files is seen here.
 use mathlib.Core.Path.{_≡_, refl, sym, ap, _∙_}
 use mathlib.Core.Logic.{_↔_}
 use mathlib.Core.Bool.{Bool, true, false, cond, not, _&&_}

@@ -1,5 +1,4 @@
 -- Pool and store go on agreeing with the machine: when they are fresh, when blocks are released, and when a file is put.
--- Assumes nothing.
 use mathlib.Core.Path.{_≡_, refl, sym, ap, _∙_, subst}
 use mathlib.Core.Bool.{Bool, true, false, cond, _&&_, true≢false, false≢true, and-false}
 use mathlib.Core.List.{[], _∷_, _++_}

@@ -1,4 +1,4 @@
--- A file that a unit takes can be put: its records are a run of slots before the end of 2099. Assumes nothing.
+-- A file that a unit takes can be put: its records are a run of slots before the end of 2099.
 use mathlib.Core.Path.{_≡_, refl}
 use mathlib.Core.Bool.{true, false, _&&_, false≢true}
 use mathlib.Core.List.{List, [], _∷_}

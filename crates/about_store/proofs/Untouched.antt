@@ -1,4 +1,4 @@
--- A put changes no byte but in the blocks of months from floor on that it covers, and no held month's block. Assumes nothing.
+-- A put changes no byte but in the blocks of months from floor on that it covers, and no held month's block.
 use mathlib.Core.Path.{_≡_, refl, sym, _∙_, subst}
 use mathlib.Core.Logic.{_⊎_, ⊎-elim}
 use mathlib.Core.Bool.{Bool, true, false, cond, or-true}

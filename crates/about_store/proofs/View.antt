@@ -1,5 +1,5 @@
 -- What pool and store stand for: a floor, the months held, and the rate of each slot of a month; and what a put piece does to it.
--- The machine's files are not seen here. Assumes nothing.
+-- The machine's files are not seen here.
 use mathlib.Core.Path.{_≡_, refl, sym, ap, _∙_, subst}
 use mathlib.Core.Logic.{_⊎_, inl, inr, ⊎-elim, _≢_, _↔_}
 use mathlib.Core.Bool.{Bool, true, false, cond, _&&_, _||_, true≢false}

@@ -1,5 +1,4 @@
 -- A 203 body of three rates, and what is kept of it; with a rate of 101 it is refused. Computed from the definitions.
--- Assumes nothing.
 use mathlib.Core.Path.{_≡_, refl}
 use mathlib.Core.List.{List, _∷_, _++_}
 use Prim.Native.Nat.{ℕ}

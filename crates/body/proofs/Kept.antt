@@ -1,5 +1,4 @@
 -- What is kept of an accepted schedule body is what `summaryOf` says of its file.
--- Assumes nothing.
 use Prim.Native.Nat.{ℕ, suc, _+_, _-_, _*_, _%_, _≤_}
 use mathlib.Core.Path.{_≡_, _∙_, refl, sym, ap}
 use mathlib.Core.Bool.{Bool, true, false≢true}

@@ -1,5 +1,4 @@
 -- Laws of reading: which answer each stage's result gives, and that the creation time of a name does not matter to its body.
--- Assumes nothing.
 use Prim.Native.Nat.{ℕ, _-_, _%_}
 use mathlib.Core.Path.{_≡_, _∙_, refl, sym}
 use mathlib.Core.Bool.{Bool, true, false, cond, false≢true}

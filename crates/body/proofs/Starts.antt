@@ -1,5 +1,4 @@
 -- Laws of the dates of a record: its start, its month and its next access, and the months of the records that are left.
--- Assumes nothing.
 use Prim.Native.Nat.{ℕ, zero, suc, _+_, _-_, _%_, _≤_, _<_}
 use mathlib.Core.Path.{_≡_, _∙_, refl, sym, ap}
 use mathlib.Core.Bool.{Bool, true, false, _&&_, and-true, false≢true}

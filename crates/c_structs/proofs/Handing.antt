@@ -1,4 +1,4 @@
--- The struct that C holds: proofs of what specs/Handing says. Assumes nothing.
+-- The struct that C holds: proofs of what specs/Handing says.
 use Prim.Native.Nat.{ℕ}
 use mathlib.Core.Path.{_≡_, refl, ap, sym, _∙_}
 use mathlib.Core.Bool.{Bool, true, false, cond, _&&_, false≢true}
@@ -18,7 +18,7 @@ use Rattle.unit.specs.declared.Clock.the-variants.{Unset, At}
 use Rattle.unit.proofs.SoundParts.{sound-parts}
 use Rattle.c_structs.specs.Held.{settingsIn, settingsHeld, never, clockFrom, markOf, secondOf, isHeldClock, isHeldUnit, opened, shutOf, handed, handedBy}
 use Rattle.c_structs.specs.Handing.{UnitBack, HeldByUnit, StructBack, NoUnit, RefusalHandsBack}
-use Rattle.c_structs.specs.declared.structs.HeldUnit.{HeldUnit}
+use Rattle.c_structs.specs.declared.HeldUnit.{HeldUnit}
 
 clock-back : (c : Clock) → clockFrom (markOf c) (secondOf c) ≡ c
 unfolding clockFrom

@@ -1,4 +1,4 @@
--- Clocks of C's fields, and what a call hands back. Assumes nothing.
+-- Clocks of C's fields, and what a call hands back.
 use Prim.Native.Nat.{ℕ}
 use mathlib.Core.Path.{_≡_, refl}
 use mathlib.Core.Bool.{true, false, _&&_}
@@ -10,7 +10,7 @@ use Rattle.rules.specs.declared.Cause.{Cause}
 use Rattle.unit.specs.declared.Done.{Done}
 use Rattle.unit.specs.declared.Clock.the-variants.{Unset, At}
 use Rattle.c_structs.specs.Held.{never, clockFrom, shutOf, handed}
-use Rattle.c_structs.specs.declared.structs.HeldUnit.{HeldUnit}
+use Rattle.c_structs.specs.declared.HeldUnit.{HeldUnit}
 
 module _ (mark second : ℕ) where
   pub clock-set : mark ≡ 1 → At second ≡ clockFrom mark second

@@ -8,7 +8,7 @@ use Rattle.unit.specs.declared.Unit.{Unit}
 use Rattle.unit.specs.declared.Done.{Done}
 use Rattle.plant.specs.Plant.{isKept, settingsOf}
 use Rattle.c_structs.specs.Held.{isHeldUnit, opened, shutOf, handed}
-use Rattle.c_structs.specs.declared.structs.HeldUnit.{HeldUnit}
+use Rattle.c_structs.specs.declared.HeldUnit.{HeldUnit}
 
 -- every unit converts to the struct and back to itself: `isKept` says that its settings are u32, as those of every unit are
 abbrev pub UnitBack : Type 0

@@ -14,9 +14,9 @@ use Rattle.unit.specs.declared.Done.{Done}
 use Rattle.unit.specs.declared.Installed.{Installed}
 use Rattle.unit.specs.declared.Clock.{Clock}
 use Rattle.unit.specs.declared.Clock.the-variants.{Unset, At}
-use Rattle.c_structs.specs.declared.structs.HeldSettings.{HeldSettings}
-use Rattle.c_structs.specs.declared.structs.HeldUnit.{HeldUnit}
-use Rattle.c_structs.specs.declared.structs.Handed.{Handed}
+use Rattle.c_structs.specs.declared.HeldSettings.{HeldSettings}
+use Rattle.c_structs.specs.declared.HeldUnit.{HeldUnit}
+use Rattle.c_structs.specs.declared.Handed.{Handed}
 
 -- the settings that C gives or holds, and the struct of settings
 abbrev pub settingsIn : HeldSettings → Settings

@@ -1,4 +1,2 @@
 pub mod Held
-pub mod Answers
 pub mod Handing
-pub mod Places

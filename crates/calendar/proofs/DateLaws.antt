@@ -1,5 +1,4 @@
 -- Laws of dates in digits: which tests decide them, and that every date stands before the end of 2099.
--- Assumes nothing.
 use Prim.Native.Nat.{ℕ, _+_, _-_, _*_, _/_, _≤_, _<_}
 use mathlib.Core.Path.{_≡_, refl, sym, ap, _∙_}
 use mathlib.Core.Bool.{Bool, true, false, cond, _&&_, and-assoc, and-false}

@@ -1,5 +1,4 @@
 -- Laws of the search for a month: a right table of four years, and the guess that a day divided by 31 gives.
--- Assumes nothing.
 use Prim.Native.Nat.{ℕ, suc, _+_, _*_, _/_, _≤_, _<_}
 use mathlib.Core.Path.{_≡_, refl, ap}
 use mathlib.Core.Bool.{Bool, true, false}

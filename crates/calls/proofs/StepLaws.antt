@@ -1,4 +1,4 @@
--- What `step` returns is what the call's own method returns. Assumes nothing.
+-- What `step` returns is what the call's own method returns.
 use Prim.Native.Nat.{ℕ}
 use mathlib.Core.Path.{_≡_, refl}
 use mathlib.Core.List.{List}

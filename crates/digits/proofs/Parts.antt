@@ -1,5 +1,4 @@
 -- Laws of parts of a list of bytes: their lengths, parts of parts, and what holds of every byte.
--- Assumes nothing.
 use Prim.Native.Nat.{ℕ, zero, suc, _+_, _-_, _≤_}
 use mathlib.Core.Path.{_≡_, _∙_, refl, sym, ap}
 use mathlib.Core.Bool.{true}

@@ -1,5 +1,4 @@
 -- Laws of bytes put into a buffer: one after the other is both, from place 0 on they are the buffer's first bytes.
--- Assumes nothing.
 use Prim.Native.Nat.{ℕ, suc, _+_, _-_, _≤_, _<_, min}
 use mathlib.Core.Path.{_≡_, _∙_, refl, sym, ap}
 use mathlib.Core.Bool.{Bool, true, false}

@@ -1,5 +1,4 @@
 -- The form of an error file, what it tells of the file, and the answers that follow from it.
--- Assumes nothing.
 use Prim.Native.Nat.{ℕ, _-_, _≤_, _<_}
 use mathlib.Core.Path.{_≡_, _∙_, refl, sym}
 use mathlib.Core.Bool.{Bool, true, false, _&&_, and-false, and-true}

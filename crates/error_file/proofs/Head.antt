@@ -1,5 +1,4 @@
 -- The six bytes before the text: their tests byte by byte, and the code they hold.
--- Assumes nothing.
 use Prim.Native.Nat.{ℕ, suc, _+_, _-_, _*_, _≤_, _<_}
 use mathlib.Core.Path.{_≡_, _∙_, refl, ap}
 use mathlib.Core.Bool.{Bool, true, _&&_, _||_, and-true, and-assoc}

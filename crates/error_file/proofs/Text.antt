@@ -1,5 +1,4 @@
 -- The bounds that a lead byte sets, one step of the walk over a text, and its end, on plain values.
--- Assumes nothing.
 use Prim.Native.Nat.{ℕ, zero, suc, _-_, _≤_}
 use mathlib.Core.Path.{_≡_, refl, sym}
 use mathlib.Core.Bool.{Bool, cond, _&&_, and-assoc}

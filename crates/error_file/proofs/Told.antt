@@ -1,4 +1,4 @@
--- An empty text is told from none by the code. Assumes nothing.
+-- An empty text is told from none by the code.
 use Prim.Native.Nat.{ℕ}
 use mathlib.Core.Path.{_≡_, refl, sym, _∙_, ap}
 use mathlib.Core.Bool.{Bool, true, false}

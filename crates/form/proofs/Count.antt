@@ -1,5 +1,4 @@
 -- Laws of the record count at the front of a body, from what `number` says of it.
--- Assumes nothing.
 use Prim.Native.Nat.{ℕ, _≤_, _<_}
 use mathlib.Core.Path.{_≡_, _∙_, refl}
 use mathlib.Core.Bool.{Bool, true, false, cond}

@@ -1,5 +1,4 @@
 -- What a caller may take from a body whose form is right: where its records stand, how many they are, and how many rates they have.
--- Assumes nothing.
 use Prim.Native.Nat.{ℕ, zero, suc, _+_, _*_, _≤_, _<_}
 use mathlib.Core.Path.{_≡_, _∙_, refl, ap}
 use mathlib.Core.Bool.{true, Bool, false, cond, _&&_}

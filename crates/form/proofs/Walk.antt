@@ -1,5 +1,4 @@
 -- Laws of a walk over records: what their form says, one record on, and that form and fields together are `parseRecords`.
--- Assumes nothing.
 use Prim.Native.Nat.{ℕ, zero, suc, _+_, _-_, _≤_, _<_}
 use mathlib.Core.Path.{_≡_, _∙_, refl, sym, ap}
 use mathlib.Core.Bool.{Bool, true, false, _&&_, cond, and-false, false≢true}

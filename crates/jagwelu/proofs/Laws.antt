@@ -1,4 +1,4 @@
--- The number of a check, the answers to questions, and the text's length in an error file. Assumes nothing.
+-- The number of a check, the answers to questions, and the text's length in an error file.
 use Prim.Native.Nat.{ℕ, _-_, _≤_}
 use mathlib.Core.Path.{_≡_, refl, sym, ap, ap₂, _∙_}
 use mathlib.Core.Bool.{Bool, true, false, not, _&&_}
@@ -25,11 +25,11 @@ use Rattle.unit.specs.declared.CommandAsked.{CommandAsked}
 use Rattle.unit.specs.declared.FreeAsked.{FreeAsked}
 use Rattle.unit.specs.declared.RequestAsked.{RequestAsked}
 use Rattle.unit.proofs.LentLaws.{lent-row}
-use Rattle.c_structs.specs.Answers.{dueNumbers, ceilingNumbers, commandNumber, blocksNumber, writtenNumbers, errorNumbers}
-use Rattle.c_structs.specs.declared.answers.Number.{Number}
-use Rattle.c_structs.specs.declared.answers.WrittenBytes.{WrittenBytes}
-use Rattle.c_structs.specs.declared.answers.DueAnswer.{DueAnswer}
-use Rattle.c_structs.specs.declared.answers.CeilingAnswer.{CeilingAnswer}
+use Rattle.c_answers.specs.Answers.{dueNumbers, ceilingNumbers, commandNumber, blocksNumber, writtenNumbers, errorNumbers}
+use Rattle.c_answers.specs.declared.Number.{Number}
+use Rattle.c_answers.specs.declared.WrittenBytes.{WrittenBytes}
+use Rattle.c_answers.specs.declared.DueAnswer.{DueAnswer}
+use Rattle.c_answers.specs.declared.CeilingAnswer.{CeilingAnswer}
 use Rattle.jagwelu.specs.Check.{checkNumber}
 
 module _ (u : Unit) (store : List ℕ) where

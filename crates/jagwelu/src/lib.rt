@@ -1,11 +1,10 @@
 // What C calls (include/jagwelu.h): the unit's calls over a struct that C holds, and files read and written without a unit.
-mod bodies;
-
 ghost use mathlib.Core.Path.{_≡_};
 ghost use mathlib.Core.Option.{none, some};
 ghost use lib.ListN.{length};
 ghost use Rattle.rules.specs.ErrorFile.{errorCode, codeOf};
 ghost use Rattle.rules.specs.File.{readFile};
+ghost use Rattle.rules.specs.Name.{formatOf};
 ghost use Rattle.rules.specs.Reading.{readingOf};
 ghost use Rattle.rules.specs.Writer.{writeBody, writtenOf, bufferAfter};
 ghost use Rattle.rules.specs.declared.Kind.{Kind as KindOf};
@@ -15,19 +14,20 @@ ghost use Rattle.unit.specs.Request.{requestOf};
 ghost use Rattle.unit.specs.Values.{installedUnit};
 ghost use Rattle.plan.specs.Fields.{fieldsOf};
 ghost use Rattle.c_structs.specs.Held.{settingsIn, opened, handed, newly};
+ghost use Rattle.c_bodies.specs.Bodies.{locateBy, ratesBy};
+ghost use Rattle.c_bodies.specs.Places.{placesNumbers};
 ghost use Rattle.jagwelu.specs.Check.{checkNumber};
-ghost use Rattle.c_structs.specs.Answers.{dueNumbers, ceilingNumbers, commandNumber, blocksNumber, writtenNumbers, fileNumbers, errorNumbers};
-pub use bodies::jag_copy_rates;
-pub use bodies::jag_record;
-use c_structs::CeilingAnswer;
-use c_structs::DueAnswer;
-use c_structs::ErrorAnswer;
-use c_structs::FileAnswer;
+ghost use Rattle.c_answers.specs.Answers.{dueNumbers, ceilingNumbers, commandNumber, blocksNumber, writtenNumbers, fileNumbers, errorNumbers};
+use c_answers::CeilingAnswer;
+use c_answers::DueAnswer;
+use c_answers::ErrorAnswer;
+use c_answers::FileAnswer;
+use c_answers::Number;
+use c_answers::WrittenBytes;
+use c_bodies::RecordPlaces;
 use c_structs::Handed;
 use c_structs::HeldSettings;
 use c_structs::HeldUnit;
-use c_structs::Number;
-use c_structs::WrittenBytes;
 use rules::Cause;
 use rules::ErrorCode;
 use rules::Kind;
@@ -108,7 +108,7 @@ pub extern "C" fn jag_due(unit: HeldUnit) -> DueAnswer
     let opened = c_structs::open(unit);
     let asked = opened.due();
     let due = asked.answer;
-    c_structs::due_answer(due)
+    c_answers::due_answer(due)
 }
 
 #[no_mangle]
@@ -118,7 +118,7 @@ pub extern "C" fn jag_ceiling(unit: HeldUnit, slot: u64, store: &[u8]) -> Ceilin
     let opened = c_structs::open(unit);
     let asked = opened.ceiling(slot, store);
     let ceiling = asked.answer;
-    c_structs::ceiling_answer(ceiling)
+    c_answers::ceiling_answer(ceiling)
 }
 
 #[no_mangle]
@@ -128,7 +128,7 @@ pub extern "C" fn jag_command(unit: HeldUnit) -> Number
     let opened = c_structs::open(unit);
     let asked = opened.command();
     let command = asked.answer;
-    c_structs::command_number(command)
+    c_answers::command_number(command)
 }
 
 #[no_mangle]
@@ -138,7 +138,7 @@ pub extern "C" fn jag_free_blocks(unit: HeldUnit) -> Number
     let opened = c_structs::open(unit);
     let asked = opened.free_blocks();
     let free = asked.answer;
-    c_structs::blocks_number(free)
+    c_answers::blocks_number(free)
 }
 
 #[no_mangle]
@@ -165,7 +165,7 @@ pub extern "C" fn jag_request(unit: HeldUnit, segment: &[u8], out: &mut [u8]) ->
     let opened = c_structs::open(unit);
     let asked = opened.request(segment, out);
     let written = asked.answer;
-    c_structs::written_bytes(written)
+    c_answers::written_bytes(written)
 }
 
 #[no_mangle]
@@ -173,7 +173,7 @@ pub extern "C" fn jag_read(name: &[u8], body: &[u8]) -> FileAnswer
     ensures { λ r. ⌜ r ≡ fileNumbers (readingOf (readFile none (now (name .entry)) (now (body .entry)))) ⌝ }
 {
     let reading = transfer::read(name, body);
-    c_structs::file_answer(reading)
+    c_answers::file_answer(reading)
 }
 
 // For a plant whose ID is given: a file for another is refused with 8.
@@ -182,7 +182,24 @@ pub extern "C" fn jag_read_for(plant: &[u8], name: &[u8], body: &[u8]) -> FileAn
     ensures { λ r. ⌜ r ≡ fileNumbers (readingOf (readFile (some (now (plant .entry))) (now (name .entry)) (now (body .entry)))) ⌝ }
 {
     let reading = transfer::read_for(plant, name, body);
-    c_structs::file_answer(reading)
+    c_answers::file_answer(reading)
+}
+
+#[no_mangle]
+pub extern "C" fn jag_record(format: u32, body: &[u8], index: usize) -> RecordPlaces
+    ensures { λ r. ⌜ r ≡ placesNumbers (locateBy (formatOf format) (now (body .entry)) index) ⌝ }
+{
+    let found = c_bodies::located(format, body, index);
+    c_bodies::record_places(found)
+}
+
+#[no_mangle]
+pub extern "C" fn jag_copy_rates(format: u32, body: &[u8], out: &mut [u8]) -> WrittenBytes
+    ensures answer { λ r. ⌜ r ≡ writtenNumbers (writtenOf (ratesBy (formatOf format) (now (body .entry)) (length (now (out .entry))))) ⌝ }
+    ensures buffer { λ _. ⌜ now (out .exit) ≡ bufferAfter (ratesBy (formatOf format) (now (body .entry)) (length (now (out .entry)))) (now (out .entry)) ⌝ }
+{
+    let written = c_bodies::copied(format, body, out);
+    c_answers::written_bytes(written)
 }
 
 #[no_mangle]
@@ -200,7 +217,7 @@ pub extern "C" fn jag_write_body(
     ensures buffer { λ _. ⌜ now (out .exit) ≡ bufferAfter (writeBody (fieldsOf format (now (plant .entry)) (now (schedule .entry)) (now (start .entry)) (now (next .entry)) (now (rates .entry)) flag) (length (now (out .entry)))) (now (out .entry)) ⌝ }
 {
     let written = writer::write_body(format, plant, schedule, start, next, rates, flag, out);
-    c_structs::written_bytes(written)
+    c_answers::written_bytes(written)
 }
 
 #[no_mangle]

@@ -1,5 +1,4 @@
 -- Laws of lists of bytes: their parts and places, equal ones, digits and the numbers that they stand for.
--- Assumes nothing.
 use Prim.Native.Nat.{ℕ, zero, suc, _+_, _-_, _*_, _/_, _%_, _^_, _≤_, _<_, min}
 use mathlib.Core.Path.{_≡_, _∙_, refl, sym, ap}
 use mathlib.Core.Bool.{Bool, true, false, _&&_, false≢true}

@@ -1,5 +1,4 @@
 -- What the tests of `rules` on names, bodies and dates say, fact by fact.
--- Assumes nothing.
 use Prim.Native.Nat.{ℕ, _+_, _≤_, _<_}
 use mathlib.Core.Path.{_≡_}
 use mathlib.Core.Bool.{true}

@@ -1,5 +1,4 @@
 -- Laws of tests: what tests joined say, when two tests are the same; and that nothing is not something.
--- Assumes nothing.
 use Prim.Native.Nat.{ℕ}
 use mathlib.Core.Path.{_≡_, refl, sym}
 use mathlib.Core.Logic.{_⊎_, inl, inr}

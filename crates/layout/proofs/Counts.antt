@@ -1,5 +1,4 @@
 -- Laws of the numbers of a record: its rate count, its length, and the checksum of its rates.
--- Assumes nothing.
 use Prim.Native.Nat.{ℕ, _+_, _*_, _≤_, _<_}
 use mathlib.Core.Path.{_≡_, _∙_, refl, sym}
 use mathlib.Core.List.{List}

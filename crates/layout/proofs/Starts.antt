@@ -1,5 +1,4 @@
 -- Laws of starts and next accesses: what the calendar's answers say of them, the months of segments, and the tests of whole months and of a 203.
--- Assumes nothing.
 use Prim.Native.Nat.{ℕ, _+_, _-_, _*_, _/_, _%_}
 use mathlib.Core.Path.{_≡_, _∙_, refl, sym}
 use mathlib.Core.Bool.{Bool, true, false, cond, _&&_, and-false, and-true}

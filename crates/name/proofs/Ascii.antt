@@ -1,5 +1,4 @@
 -- Laws of the loops over ASCII digits: their values and the number that they stand for, at i, at i + 1 and at the end.
--- Assumes nothing.
 use Prim.Native.Nat.{ℕ, _+_, _-_, _*_, _^_, _≤_, _<_}
 use mathlib.Core.Path.{_≡_, refl}
 use mathlib.Core.Bool.{true, _&&_}

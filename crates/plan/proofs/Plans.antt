@@ -1,5 +1,4 @@
 -- Laws of the plans: what each way through the tests decides, what a plan says of the fields, and that its records are the writer's output.
--- Assumes nothing.
 use Prim.Native.Nat.{ℕ, _+_, _-_, _≤_}
 use mathlib.Core.Path.{_≡_, _∙_, refl, sym, ap}
 use mathlib.Core.Bool.{Bool, true, false, cond, _&&_, _||_, and-assoc, and-true, false≢true}

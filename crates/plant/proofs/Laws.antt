@@ -1,5 +1,4 @@
 -- The laws of the plant: what a valid one has, what installing leaves, and the bounds of p and of the command.
--- Assumes nothing.
 use Prim.Native.Nat.{ℕ, zero, suc, _*_, _/_, _≤_, _<_}
 use mathlib.Core.Path.{_≡_, _∙_, refl, ap}
 use mathlib.Core.Bool.{Bool, true, false, cond, _&&_}

@@ -1,5 +1,4 @@
 -- Laws of the plant's loops: what the part from i on gives, at i + 1 and at the end.
--- Assumes nothing.
 use Prim.Native.Nat.{ℕ, zero, suc, _+_, _*_, _%_, _≤_, _<_}
 use mathlib.Core.Path.{_≡_, _∙_, refl, ap}
 use mathlib.Core.Logic.{_⊎_, inl, inr}

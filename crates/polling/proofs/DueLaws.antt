@@ -1,4 +1,4 @@
--- What is due is what the machine replies: by the two tests. Assumes nothing.
+-- What is due is what the machine replies: by the two tests.
 use Prim.Native.Nat.{ℕ}
 use mathlib.Core.Path.{_≡_, refl}
 use mathlib.Core.Bool.{Bool, true, false, cond}

@@ -1,5 +1,5 @@
 -- The laws of the command over the seconds of a tick: it splits at any second, reads only the slots of its seconds, stays legal, and
--- stands on a slot's goal after the whole of it. Assumes nothing.
+-- stands on a slot's goal after the whole of it.
 use Prim.Native.Nat.{ℕ, zero, suc, _+_, _-_, _*_, _≤_, _<_, min, max, zero-le}
 use native.Mathlib.Nat.{add-zero, zero-add, add-suc, suc-add, le-trans}
 use native.Mathlib.Omega.{arith}

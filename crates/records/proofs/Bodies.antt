@@ -1,5 +1,4 @@
 -- Laws of a body that stands: what its tests say, and that it is a body that parses.
--- Assumes nothing.
 use Prim.Native.Nat.{ℕ, _-_}
 use mathlib.Core.Path.{_≡_, _∙_, refl}
 use mathlib.Core.Bool.{Bool, true, false, cond}

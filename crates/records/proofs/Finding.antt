@@ -1,5 +1,4 @@
 -- Laws of finding a record: the answer for each test, and that the parts at its places are the fields of the record.
--- Assumes nothing.
 use Prim.Native.Nat.{ℕ, zero, suc, _+_, _-_, _≤_, _<_}
 use mathlib.Core.Path.{_≡_, _∙_, refl, sym, ap}
 use mathlib.Core.Bool.{Bool, true, false, cond, _&&_, false≢true}

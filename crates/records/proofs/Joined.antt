@@ -1,5 +1,4 @@
 -- Laws of the rates of records end to end, put into a buffer one record after the other.
--- Assumes nothing.
 use Prim.Native.Nat.{ℕ, _+_, _-_, _*_, _≤_, _<_}
 use mathlib.Core.Path.{_≡_, _∙_, refl, sym, ap}
 use mathlib.Core.Bool.{true, false}

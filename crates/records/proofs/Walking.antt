@@ -1,5 +1,4 @@
 -- Laws of a walk from record to record of a body that stands: at record k the walk is at `recordStart`, within the body.
--- Assumes nothing.
 use Prim.Native.Nat.{ℕ, _+_, _-_, _≤_, _<_}
 use mathlib.Core.Path.{_≡_, _∙_, refl}
 use mathlib.Core.List.{List}

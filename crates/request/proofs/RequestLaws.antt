@@ -1,5 +1,4 @@
 -- Laws of bytes written one after another into a buffer, and of the refusals in their order.
--- Assumes nothing.
 use Prim.Native.Nat.{ℕ, zero, suc, _+_, _≤_, _<_}
 use mathlib.Core.Path.{_≡_, refl, sym, ap, _∙_}
 use mathlib.Core.Bool.{true, false}

@@ -1,5 +1,4 @@
 -- Laws of the blocks that a run still needs: a count over a range of months is the count over all of them.
--- Assumes nothing.
 use Prim.Native.Nat.{ℕ, zero, suc, _+_, _-_, _≤_, _<_, min, max}
 use mathlib.Core.Path.{_≡_, _∙_, refl, sym, ap}
 use mathlib.Core.Logic.{⊎-elim}

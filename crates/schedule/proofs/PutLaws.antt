@@ -1,5 +1,4 @@
 -- Laws of putting rates: what each step of `putRun` is, by the tests that the code makes.
--- Assumes nothing.
 use Prim.Native.Nat.{ℕ, suc, _+_, _-_, _≤_, _<_, min, max}
 use mathlib.Core.Path.{_≡_, _∙_, sym, ap}
 use mathlib.Core.Bool.{true, false, _&&_, and-false}

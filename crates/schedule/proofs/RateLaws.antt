@@ -1,5 +1,4 @@
 -- Laws of the rate of a slot: a byte as a rate, a rate as a byte, and the place of a slot.
--- Assumes nothing.
 use Prim.Native.Nat.{ℕ, _-_, _≤_, _<_}
 use mathlib.Core.Path.{_≡_, refl, _∙_}
 use mathlib.Core.Bool.{Bool, true, false}

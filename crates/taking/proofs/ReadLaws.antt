@@ -1,4 +1,4 @@
--- What a unit may take from a file that it is to take: its records stand in the body's bytes, its segment is a number. Assumes nothing.
+-- What a unit may take from a file that it is to take: its records stand in the body's bytes, its segment is a number.
 use Prim.Native.Nat.{ℕ, _+_, _-_, _≤_}
 use mathlib.Core.Path.{_≡_, _∙_, refl, sym, ap, subst}
 use mathlib.Core.Bool.{Bool, true, false, cond, _&&_}

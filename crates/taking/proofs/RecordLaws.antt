@@ -1,4 +1,4 @@
--- Laws of the walk that puts records: one record on, and what is put of it. Assumes nothing.
+-- Laws of the walk that puts records: one record on, and what is put of it.
 use Prim.Native.Nat.{ℕ, _+_, _-_, _≤_, _<_}
 use mathlib.Core.Path.{_≡_, _∙_, refl, sym, ap, subst}
 use mathlib.Core.List.{List}

@@ -1,4 +1,4 @@
--- What take_file answers and leaves at each of its returns. Assumes nothing.
+-- What take_file answers and leaves at each of its returns.
 use Prim.Native.Nat.{ℕ, _-_, _≤_, _<_}
 use mathlib.Core.Path.{_≡_, _∙_, refl, ap}
 use mathlib.Core.Bool.{Bool, true, false, _&&_}

@@ -1,4 +1,4 @@
--- What ceiling answers at each of its returns. Assumes nothing.
+-- What ceiling answers at each of its returns.
 use Prim.Native.Nat.{ℕ, _≤_, _<_}
 use mathlib.Core.Path.{_≡_, _∙_, sym, ap}
 use mathlib.Core.Bool.{true, false, _&&_}

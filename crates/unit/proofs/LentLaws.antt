@@ -1,5 +1,4 @@
 -- The rows that a call looks at first where a store is lent to it: its length, and the soundness of unit and store.
--- Assumes nothing.
 use Prim.Native.Nat.{ℕ}
 use mathlib.Core.Path.{_≡_}
 use mathlib.Core.Bool.{Bool, _&&_}

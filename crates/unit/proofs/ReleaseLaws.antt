@@ -1,5 +1,4 @@
 -- Giving blocks back: twice is once, what is left is found as before and is sound, and a sound store gives no rate above 100.
--- Assumes nothing.
 use Prim.Native.Nat.{ℕ, zero, suc, _-_, _*_, _/_, _^_, _≤_, _<_, zero-le}
 use native.Mathlib.Nat.{le-of-suc-le-suc, eq-or-lt-of-le, max-le}
 use native.Mathlib.Omega.{arith}

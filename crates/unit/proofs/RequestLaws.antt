@@ -1,4 +1,4 @@
--- What request answers and writes at each of its returns. Assumes nothing.
+-- What request answers and writes at each of its returns.
 use Prim.Native.Nat.{ℕ}
 use mathlib.Core.Path.{_≡_, refl, ap, _∙_, sym}
 use mathlib.Core.Bool.{true, false}

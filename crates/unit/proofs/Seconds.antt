@@ -1,5 +1,4 @@
 -- The seconds of a tick: all of them at once are what they are one by one, and each leaves a sound unit and a sound store sound.
--- Assumes nothing.
 use Prim.Native.Nat.{ℕ, zero, suc, _+_, _-_, _*_, _≤_, _<_}
 use native.Mathlib.Omega.{arith}
 use mathlib.Core.Path.{_≡_, _∙_, sym, ap, ap₂}

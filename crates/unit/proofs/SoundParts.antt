@@ -1,4 +1,4 @@
--- A sound unit, as facts one by one; and a unit with its store, both sound. Assumes nothing.
+-- A sound unit, as facts one by one; and a unit with its store, both sound.
 use Prim.Native.Nat.{ℕ, _*_}
 use mathlib.Core.Path.{_≡_, _∙_, sym}
 use mathlib.Core.Bool.{true, _&&_}

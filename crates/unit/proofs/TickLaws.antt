@@ -1,5 +1,4 @@
 -- What tick answers at each of its returns; when it is accepted; and that it then leaves a sound unit and a sound store sound.
--- Assumes nothing.
 use Prim.Native.Nat.{ℕ, _-_, _≤_, _<_}
 use native.Mathlib.Omega.{arith}
 use mathlib.Core.Path.{_≡_, _∙_, refl, sym, ap}

@@ -1,4 +1,4 @@
--- One tick over n seconds ends where n ticks of one second end. Assumes nothing.
+-- One tick over n seconds ends where n ticks of one second end.
 use Prim.Native.Nat.{ℕ, zero, suc, _+_, _-_, _≤_, _<_}
 use native.Mathlib.Omega.{arith}
 use mathlib.Core.Path.{_≡_, _∙_, refl, sym, ap}

@@ -1,5 +1,4 @@
 -- Laws of the months of a body, whose rates stand end to end: what is left after some of them, and how long they are.
--- Assumes nothing.
 use Prim.Native.Nat.{ℕ, zero, suc, _+_, _-_, _*_, _≤_, _<_}
 use mathlib.Core.Path.{_≡_, _∙_, refl, sym, ap}
 use mathlib.Core.List.{List, [], _++_}

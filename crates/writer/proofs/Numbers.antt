@@ -1,5 +1,4 @@
 -- Laws of a number that is put into a buffer as digits, the last one first.
--- Assumes nothing.
 use Prim.Native.Nat.{ℕ, suc, _+_, _-_, _/_, _%_, _≤_, _<_}
 use mathlib.Core.Path.{_≡_, _∙_, refl, sym}
 use mathlib.Core.Logic.{_≢_}

@@ -1,5 +1,4 @@
 -- Laws of the output: the body of a plan's records, its length, and the output of a plan.
--- Assumes nothing.
 use Prim.Native.Nat.{ℕ, _+_, _-_, _*_}
 use mathlib.Core.Path.{_≡_, _∙_, refl, ap}
 use mathlib.Core.List.{List, _++_, append-nil}

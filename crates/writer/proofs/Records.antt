@@ -1,5 +1,4 @@
 -- Laws of the records: their bytes from the parts that are put one after the other, and their lengths.
--- Assumes nothing.
 use Prim.Native.Nat.{ℕ, _+_, _/_, _%_, _≤_}
 use mathlib.Core.Path.{_≡_, _∙_, refl, sym, ap}
 use mathlib.Core.List.{List, [], _∷_, _++_, append-assoc, append-nil}

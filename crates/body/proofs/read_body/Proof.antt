@@ -1,4 +1,4 @@
--- `body::read_body` meets its contract: the count is judged first, and what follows it by its format. Assumes nothing.
+-- `body::read_body` meets its contract: the count is judged first, and what follows it by its format.
 use mathlib.Core.Path.{_≡_, _∙_, sym}
 use mathlib.Core.Bool.{true}
 use denote.Ref.{now}

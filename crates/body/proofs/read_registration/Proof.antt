@@ -1,4 +1,4 @@
--- `body::read_registration` meets its contract: form and plant are all that is judged. Assumes nothing.
+-- `body::read_registration` meets its contract: form and plant are all that is judged.
 use mathlib.Core.Path.{_≡_, _∙_, sym}
 use mathlib.Core.Bool.{true}
 use native.Mathlib.Omega.{arith}

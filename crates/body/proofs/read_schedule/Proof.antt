@@ -1,4 +1,4 @@
--- `body::read_schedule` meets its contract: each return has a law on the tests that led there. Assumes nothing.
+-- `body::read_schedule` meets its contract: each return has a law on the tests that led there.
 use mathlib.Core.Path.{_≡_, _∙_, sym}
 use mathlib.Core.Bool.{Bool, true}
 use mathlib.Core.List.{List, []}

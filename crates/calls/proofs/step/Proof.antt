@@ -1,4 +1,4 @@
--- `calls::step` meets its contract, call by call. Assumes nothing.
+-- `calls::step` meets its contract, call by call.
 use Prim.Native.Nat.{ℕ}
 use mathlib.Core.List.{List}
 use denote.Ref.{now}

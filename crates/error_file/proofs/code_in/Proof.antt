@@ -1,4 +1,4 @@
--- `error_file::code_in` meets its contract. Assumes nothing.
+-- `error_file::code_in` meets its contract.
 use borrow.Author.Needs.{needs}
 use Rattle.error_file.proofs.Head.{code-is}
 use Rattle.error_file.proofs.code_in.Statement.{statement}

@@ -1,4 +1,4 @@
--- `error_file::error_code` meets its contract. Assumes nothing.
+-- `error_file::error_code` meets its contract.
 use mathlib.Core.Path.{_∙_, sym}
 use borrow.Author.Needs.{needs}
 use borrow.Author.Tests.{not-true, not-false}

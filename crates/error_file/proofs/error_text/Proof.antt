@@ -1,4 +1,4 @@
--- `error_file::error_text` meets its contract. Assumes nothing.
+-- `error_file::error_text` meets its contract.
 use mathlib.Core.Path.{_∙_, sym}
 use native.Mathlib.Omega.{arith}
 use borrow.Author.Needs.{needs}

@@ -1,4 +1,4 @@
--- `error_file::has_head` meets its contract. Assumes nothing.
+-- `error_file::has_head` meets its contract.
 use borrow.Author.Needs.{needs}
 use Rattle.error_file.proofs.Head.{head-is}
 use Rattle.error_file.proofs.has_head.Statement.{statement}

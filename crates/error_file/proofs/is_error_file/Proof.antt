@@ -1,4 +1,4 @@
--- `error_file::is_error_file` meets its contract. Assumes nothing.
+-- `error_file::is_error_file` meets its contract.
 use native.Mathlib.Omega.{arith}
 use borrow.Author.Needs.{needs}
 use Rattle.error_file.proofs.File.{too-short, too-long, checked}

@@ -1,4 +1,4 @@
--- `count_holds` meets its contract: a law for each answer of `number`. Assumes nothing.
+-- `count_holds` meets its contract: a law for each answer of `number`.
 use mathlib.Core.Path.{_∙_, sym}
 use Rattle.form.proofs.Count.{count-missing, count-number, count-broken}
 use borrow.Author.Needs.{needs}

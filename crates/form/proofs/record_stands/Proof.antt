@@ -1,4 +1,4 @@
--- `record_stands` meets its contract: each return has a law on the tests that led there. Assumes nothing.
+-- `record_stands` meets its contract: each return has a law on the tests that led there.
 use Rattle.form.proofs.Walk.{too-short, too-many, the-digits}
 use borrow.Author.Needs.{needs}
 use Rattle.form.proofs.record_stands.Statement.{statement}

@@ -1,4 +1,4 @@
--- `records_stand` meets its contract. The invariant: what is left gives the whole answer. Assumes nothing.
+-- `records_stand` meets its contract. The invariant: what is left gives the whole answer.
 use borrow.Author.Needs.{needs}
 use Prim.Native.Nat.{ℕ, _+_}
 use mathlib.Core.Path.{_≡_, _∙_, sym, ap}

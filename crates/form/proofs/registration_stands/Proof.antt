@@ -1,4 +1,4 @@
--- `registration_stands` meets its contract. Assumes nothing.
+-- `registration_stands` meets its contract.
 use mathlib.Core.Path.{refl}
 use denote.Ref.{now}
 use borrow.Author.Tests.{ne-eqb, eq-eqb}

@@ -1,4 +1,4 @@
--- `jagwelu::failed` meets its contract. Assumes nothing.
+-- `jagwelu::failed` meets its contract.
 use borrow.Author.Needs.{needs}
 use Rattle.jagwelu.proofs.failed.Statement.{statement}
 use Rattle.jagwelu.proofs.failed.Tie as tie

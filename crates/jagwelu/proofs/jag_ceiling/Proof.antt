@@ -1,4 +1,4 @@
--- `jagwelu::jag_ceiling` meets its contract. Assumes nothing.
+-- `jagwelu::jag_ceiling` meets its contract.
 use Rattle.jagwelu.proofs.Laws.{ceiling-said}
 use borrow.Author.Needs.{needs}
 use Rattle.jagwelu.proofs.jag_ceiling.Statement.{statement}

@@ -1,4 +1,4 @@
--- `jagwelu::jag_check` meets its contract. Assumes nothing.
+-- `jagwelu::jag_check` meets its contract.
 use mathlib.Core.Path.{_∙_}
 use Rattle.jagwelu.proofs.Laws.{check-length, check-good, check-bad}
 use borrow.Author.Needs.{needs}

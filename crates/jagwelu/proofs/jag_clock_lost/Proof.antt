@@ -1,4 +1,4 @@
--- `jagwelu::jag_clock_lost` meets its contract. Assumes nothing.
+-- `jagwelu::jag_clock_lost` meets its contract.
 use borrow.Author.Needs.{needs}
 use Rattle.jagwelu.proofs.jag_clock_lost.Statement.{statement}
 use Rattle.jagwelu.proofs.jag_clock_lost.Tie as tie

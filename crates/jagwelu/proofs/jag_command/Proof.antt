@@ -1,4 +1,4 @@
--- `jagwelu::jag_command` meets its contract. Assumes nothing.
+-- `jagwelu::jag_command` meets its contract.
 use Rattle.jagwelu.proofs.Laws.{command-said}
 use borrow.Author.Needs.{needs}
 use Rattle.jagwelu.proofs.jag_command.Statement.{statement}

@@ -1,4 +1,4 @@
--- `jagwelu::jag_due` meets its contract. Assumes nothing.
+-- `jagwelu::jag_due` meets its contract.
 use Rattle.jagwelu.proofs.Laws.{due-said}
 use borrow.Author.Needs.{needs}
 use Rattle.jagwelu.proofs.jag_due.Statement.{statement}

@@ -1,4 +1,4 @@
--- `jagwelu::jag_error_file` meets its contract. Assumes nothing.
+-- `jagwelu::jag_error_file` meets its contract.
 use Rattle.jagwelu.proofs.Laws.{text-room, error-given, error-refused}
 use mathlib.Core.Path.{sym, _∙_}
 use borrow.Author.Needs.{needs}

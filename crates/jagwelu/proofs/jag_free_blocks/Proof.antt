@@ -1,4 +1,4 @@
--- `jagwelu::jag_free_blocks` meets its contract. Assumes nothing.
+-- `jagwelu::jag_free_blocks` meets its contract.
 use Rattle.jagwelu.proofs.Laws.{free-said}
 use borrow.Author.Needs.{needs}
 use Rattle.jagwelu.proofs.jag_free_blocks.Statement.{statement}

@@ -1,4 +1,4 @@
--- `jagwelu::jag_install` meets its contract. Assumes nothing.
+-- `jagwelu::jag_install` meets its contract.
 use borrow.Author.Needs.{needs}
 use Rattle.jagwelu.proofs.jag_install.Statement.{statement}
 use Rattle.jagwelu.proofs.jag_install.Tie as tie

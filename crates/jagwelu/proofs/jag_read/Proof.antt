@@ -1,4 +1,4 @@
--- `jagwelu::jag_read` meets its contract. Assumes nothing.
+-- `jagwelu::jag_read` meets its contract.
 use borrow.Author.Needs.{needs}
 use Rattle.jagwelu.proofs.jag_read.Statement.{statement}
 use Rattle.jagwelu.proofs.jag_read.Tie as tie

@@ -1,4 +1,4 @@
--- `jagwelu::jag_read_for` meets its contract. Assumes nothing.
+-- `jagwelu::jag_read_for` meets its contract.
 use borrow.Author.Needs.{needs}
 use Rattle.jagwelu.proofs.jag_read_for.Statement.{statement}
 use Rattle.jagwelu.proofs.jag_read_for.Tie as tie

@@ -1,4 +1,4 @@
--- `jagwelu::jag_request` meets its contract. Assumes nothing.
+-- `jagwelu::jag_request` meets its contract.
 use Rattle.jagwelu.proofs.Laws.{request-said}
 use borrow.Author.Needs.{needs}
 use Rattle.jagwelu.proofs.jag_request.Statement.{statement}

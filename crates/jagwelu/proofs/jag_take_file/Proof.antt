@@ -1,4 +1,4 @@
--- `jagwelu::jag_take_file` meets its contract. Assumes nothing.
+-- `jagwelu::jag_take_file` meets its contract.
 use borrow.Author.Needs.{needs}
 use Rattle.jagwelu.proofs.jag_take_file.Statement.{statement}
 use Rattle.jagwelu.proofs.jag_take_file.Tie as tie

@@ -1,4 +1,4 @@
--- `jagwelu::jag_tick` meets its contract. Assumes nothing.
+-- `jagwelu::jag_tick` meets its contract.
 use borrow.Author.Needs.{needs}
 use Rattle.jagwelu.proofs.jag_tick.Statement.{statement}
 use Rattle.jagwelu.proofs.jag_tick.Tie as tie

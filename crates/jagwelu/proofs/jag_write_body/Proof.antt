@@ -1,4 +1,4 @@
--- `jagwelu::jag_write_body` meets its contract. Assumes nothing.
+-- `jagwelu::jag_write_body` meets its contract.
 use borrow.Author.Needs.{needs}
 use Rattle.jagwelu.proofs.jag_write_body.Statement.{statement}
 use Rattle.jagwelu.proofs.jag_write_body.Tie as tie

@@ -1,4 +1,4 @@
--- `lister::main` is safe and ends: there is room for what it reads, and what it writes of a line is there. Assumes nothing.
+-- `lister::main` is safe and ends: there is room for what it reads, and what it writes of a line is there.
 use mathlib.Core.Path.{sym}
 use lib.Seq.{length-take-le}
 use Rattle.listing.proofs.Puts.{line-fits}

@@ -1,4 +1,4 @@
--- `lister::read_input` is safe and ends, and its count is within the room: each turn but the last reads a byte at least. Assumes nothing.
+-- `lister::read_input` is safe and ends, and its count is within the room: each turn but the last reads a byte at least.
 use Prim.Native.Nat.{_≤_, _-_}
 use mathlib.Core.Path.{_≡_}
 use native.Mathlib.Omega.{arith}

@@ -1,4 +1,4 @@
--- `listing::number` meets its contract: the digits before the last, and the last. The measure is the number. Assumes nothing.
+-- `listing::number` meets its contract: the digits before the last, and the last. The measure is the number.
 use Prim.Native.Nat.{ℕ, _+_, _/_, _%_, _≤_, _<_}
 use mathlib.Core.Path.{_≡_, _∙_, ap}
 use native.Mathlib.Omega.{arith}

@@ -1,4 +1,4 @@
--- `listing::decimal` meets its contract: a number put into an empty line, whose 20 bytes have room for any u64. Assumes nothing.
+-- `listing::decimal` meets its contract: a number put into an empty line, whose 20 bytes have room for any u64.
 use Prim.Native.Nat.{_≤_, _<_, _^_}
 use mathlib.Core.Path.{_∙_, refl}
 use mathlib.Core.List.{[]}

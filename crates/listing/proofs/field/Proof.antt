@@ -1,4 +1,4 @@
--- `listing::field` meets its contract: the number, and a byte behind it. Assumes nothing.
+-- `listing::field` meets its contract: the number, and a byte behind it.
 use Prim.Native.Nat.{_+_}
 use mathlib.Core.Path.{_≡_, _∙_, ap}
 use native.Mathlib.Omega.{arith}

@@ -1,4 +1,4 @@
--- `listing::line_of` meets its contract: what is read are the parts of the input before and behind the first 0A. Assumes nothing.
+-- `listing::line_of` meets its contract: what is read are the parts of the input before and behind the first 0A.
 use Prim.Native.Nat.{ℕ, _+_, _-_, min}
 use mathlib.Core.Path.{_≡_, _∙_, sym, ap, ap₂}
 use mathlib.Core.List.{List}

@@ -1,4 +1,4 @@
--- `listing::name_end` meets its contract: the bytes passed are the name's, and what is left of the name begins at the next. Assumes nothing.
+-- `listing::name_end` meets its contract: the bytes passed are the name's, and what is left of the name begins at the next.
 use Prim.Native.Nat.{_≤_, _-_, _+_}
 use mathlib.Core.Path.{_≡_, _∙_, sym}
 use native.Mathlib.Omega.{arith}

@@ -1,4 +1,4 @@
--- `listing::ok_line` meets its contract: three numbers behind `ok `. Assumes nothing.
+-- `listing::ok_line` meets its contract: three numbers behind `ok `.
 use mathlib.Core.Path.{_∙_, refl, ap}
 use native.Mathlib.Omega.{arith}
 use Rattle.listing.specs.declared.Line.{Line}

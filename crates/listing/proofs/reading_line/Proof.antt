@@ -1,4 +1,4 @@
--- `listing::reading_line` meets its contract, case by case. Assumes nothing.
+-- `listing::reading_line` meets its contract, case by case.
 use Prim.Native.Nat.{ℕ}
 use mathlib.Core.Path.{_∙_, ap}
 use Rattle.about_files.proofs.Causes.{numbered}

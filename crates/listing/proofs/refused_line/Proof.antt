@@ -1,4 +1,4 @@
--- `listing::refused_line` meets its contract: the number behind `refused `. Assumes nothing.
+-- `listing::refused_line` meets its contract: the number behind `refused `.
 use mathlib.Core.Path.{_∙_, refl}
 use native.Mathlib.Omega.{arith}
 use Rattle.listing.specs.Line.{lineIn}

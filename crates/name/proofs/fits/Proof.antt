@@ -1,4 +1,4 @@
--- `name::fits` meets its contract: each format has its case. Assumes nothing.
+-- `name::fits` meets its contract: each format has its case.
 use mathlib.Core.Path.{refl}
 use borrow.Author.Needs.{needs}
 use Rattle.name.proofs.fits.Statement.{statement}

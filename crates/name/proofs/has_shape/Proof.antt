@@ -1,4 +1,4 @@
--- `name::has_shape` meets its contract: each part is the definition's. Assumes nothing.
+-- `name::has_shape` meets its contract: each part is the definition's.
 use mathlib.Core.Path.{refl}
 use lib.ListN.{length}
 use denote.Ref.{now}

@@ -1,4 +1,4 @@
--- `name::is_date` meets its contract: what is read is the values. Assumes nothing.
+-- `name::is_date` meets its contract: what is read is the values.
 use Prim.Native.Nat.{ℕ}
 use mathlib.Core.Path.{_≡_, sym, ap, _∙_}
 use mathlib.Core.List.{List}

@@ -1,4 +1,4 @@
--- `name::is_segment` meets its contract: each return has a law. Assumes nothing.
+-- `name::is_segment` meets its contract: each return has a law.
 use mathlib.Core.Path.{_≡_, sym, _∙_}
 use mathlib.Core.Bool.{true}
 use native.Mathlib.Omega.{arith}

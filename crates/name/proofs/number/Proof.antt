@@ -1,5 +1,5 @@
 -- `name::number` meets its contract. The loop's invariant: i digits give a value below 10 to the i, from which the rest
--- goes on; the rest is digits. Assumes nothing.
+-- goes on; the rest is digits.
 use Prim.Native.Nat.{_≤_, _<_, _-_, _^_}
 use mathlib.Core.Path.{_≡_, _∙_, refl, sym}
 use mathlib.Core.Bool.{true}

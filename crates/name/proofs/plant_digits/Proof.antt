@@ -1,4 +1,4 @@
--- `name::plant_digits` meets its contract. Assumes nothing.
+-- `name::plant_digits` meets its contract.
 use mathlib.Core.Path.{refl}
 use lib.ListN.{length}
 use denote.Ref.{now}

@@ -1,4 +1,4 @@
--- `name::read_as` meets its contract: segment and creation time decide. Assumes nothing.
+-- `name::read_as` meets its contract: segment and creation time decide.
 use mathlib.Core.Path.{_≡_, refl, _∙_}
 use mathlib.Core.Bool.{_&&_}
 use native.Mathlib.Omega.{arith}

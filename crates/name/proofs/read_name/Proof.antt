@@ -1,4 +1,4 @@
--- `name::read_name` meets its contract: each format has its case, and no other number is one. Assumes nothing.
+-- `name::read_name` meets its contract: each format has its case, and no other number is one.
 use Prim.Native.Nat.{ℕ}
 use mathlib.Core.Path.{_≡_, refl, sym, ap, _∙_}
 use mathlib.Core.Bool.{true}

@@ -1,4 +1,4 @@
--- `name::stands` meets its contract. Assumes nothing.
+-- `name::stands` meets its contract.
 use Prim.Native.Nat.{_+_, _-_}
 use mathlib.Core.Path.{_≡_}
 use native.Mathlib.Omega.{arith}

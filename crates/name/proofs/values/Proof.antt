@@ -1,4 +1,4 @@
--- `name::values` meets its contract. The loop's invariant: below i the values are written. Assumes nothing.
+-- `name::values` meets its contract. The loop's invariant: below i the values are written.
 use Prim.Native.Nat.{_≤_, _-_}
 use mathlib.Core.Path.{_≡_, _∙_, refl, sym}
 use native.Mathlib.Omega.{arith}

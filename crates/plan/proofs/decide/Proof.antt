@@ -1,4 +1,4 @@
--- `plan::decide` meets its contract. Each return has a law on the fields. Assumes nothing.
+-- `plan::decide` meets its contract. Each return has a law on the fields.
 use mathlib.Core.Path.{_≡_, _∙_, sym}
 use denote.Ref.{now}
 use mathlib.Core.Bool.{true}

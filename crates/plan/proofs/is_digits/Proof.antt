@@ -1,4 +1,4 @@
--- `is_digits` meets its contract. Assumes nothing.
+-- `is_digits` meets its contract.
 use borrow.Author.Needs.{needs}
 use Rattle.plan.proofs.is_digits.Statement.{statement}
 use Rattle.plan.proofs.is_digits.Tie as tie

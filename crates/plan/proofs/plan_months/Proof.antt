@@ -1,4 +1,4 @@
--- `plan_months` meets its contract. Each return has a law on the fields. Assumes nothing.
+-- `plan_months` meets its contract. Each return has a law on the fields.
 use Prim.Native.Nat.{_+_, _-_}
 use mathlib.Core.Path.{_≡_, _∙_, sym}
 use denote.Ref.{now}

@@ -1,4 +1,4 @@
--- `plan_update` meets its contract. Each return has a law on the fields. Assumes nothing.
+-- `plan_update` meets its contract. Each return has a law on the fields.
 use mathlib.Core.Path.{_≡_, _∙_, sym}
 use denote.Ref.{now}
 use native.Mathlib.Omega.{arith}

@@ -1,5 +1,4 @@
 -- `plant::all_hex` meets its contract. The loop's invariant: `good` and the bytes from i on give the answer.
--- Assumes nothing.
 use Prim.Native.Nat.{_≤_, _-_}
 use mathlib.Core.Path.{_≡_, _∙_, refl, sym}
 use mathlib.Core.Bool.{_&&_}

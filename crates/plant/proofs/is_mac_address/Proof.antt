@@ -1,4 +1,4 @@
--- `plant::is_mac_address` meets its contract. Assumes nothing.
+-- `plant::is_mac_address` meets its contract.
 use mathlib.Core.Path.{refl}
 use Rattle.rules.specs.Plant.{macAddress}
 use borrow.Author.Needs.{needs}

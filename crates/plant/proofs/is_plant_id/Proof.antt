@@ -1,4 +1,4 @@
--- `plant::is_plant_id` meets its contract. Assumes nothing.
+-- `plant::is_plant_id` meets its contract.
 use mathlib.Core.Path.{_≡_, refl, sym}
 use native.Mathlib.Omega.{arith}
 use lib.ListN.{length}

@@ -1,4 +1,4 @@
--- `plant::make` meets its contract. Accepted values have the arrays' lengths, and are kept as they are. Assumes nothing.
+-- `plant::make` meets its contract. Accepted values have the arrays' lengths, and are kept as they are.
 use mathlib.Core.Path.{sym, _∙_}
 use denote.Ref.{now}
 use lib.ListN.{replicate}

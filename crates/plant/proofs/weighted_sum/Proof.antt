@@ -1,5 +1,4 @@
 -- `plant::weighted_sum` meets its contract. The loop's invariant: `sum` and the weighted sum from i on are the whole.
--- Assumes nothing.
 use Prim.Native.Nat.{_≤_, _-_, _+_, _*_, _%_}
 use mathlib.Core.Path.{_≡_}
 use native.Mathlib.Omega.{arith}

@@ -1,4 +1,4 @@
--- `ramp::between` meets its contract. Assumes nothing.
+-- `ramp::between` meets its contract.
 use mathlib.Core.Path.{_∙_}
 use native.Mathlib.Omega.{arith}
 use denote.Ref.{now}

@@ -1,4 +1,4 @@
--- `ramp::in_slot` meets its contract. Assumes nothing.
+-- `ramp::in_slot` meets its contract.
 use Prim.Native.Nat.{ℕ}
 use mathlib.Core.Path.{ap, _∙_}
 use Rattle.ramp.specs.Command.{moved}

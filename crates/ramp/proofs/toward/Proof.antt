@@ -1,4 +1,4 @@
--- `ramp::toward` meets its contract. Assumes nothing.
+-- `ramp::toward` meets its contract.
 use mathlib.Core.Path.{sym, _∙_}
 use native.Mathlib.Omega.{arith}
 use Rattle.ramp.proofs.Laws.{moved-up, moved-down, moved-reaches}

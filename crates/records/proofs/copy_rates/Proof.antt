@@ -1,4 +1,4 @@
--- `copy_rates` meets its contract: each return has a law on the tests that led there. Assumes nothing.
+-- `copy_rates` meets its contract: each return has a law on the tests that led there.
 use mathlib.Core.Path.{_≡_, _∙_, sym}
 use mathlib.Core.Bool.{true}
 use denote.Ref.{now}

@@ -1,4 +1,4 @@
--- `field_part` meets its contract. Assumes nothing.
+-- `field_part` meets its contract.
 use mathlib.Core.Path.{_≡_, _∙_, sym}
 use native.Mathlib.Omega.{arith}
 use denote.Ref.{now}

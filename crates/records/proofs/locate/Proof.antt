@@ -1,4 +1,4 @@
--- `locate` meets its contract: each return has a law on the tests that led there. Assumes nothing.
+-- `locate` meets its contract: each return has a law on the tests that led there.
 use mathlib.Core.Path.{_≡_, _∙_, sym}
 use mathlib.Core.Bool.{true}
 use native.Mathlib.Omega.{arith}

@@ -1,4 +1,4 @@
--- `stands` meets its contract. Assumes nothing.
+-- `stands` meets its contract.
 use mathlib.Core.Path.{_≡_, _∙_, sym}
 use mathlib.Core.Bool.{true}
 use denote.Ref.{now}

@@ -1,4 +1,4 @@
--- `replay::replay` is safe and ends: the turns are counted down. Assumes nothing.
+-- `replay::replay` is safe and ends: the turns are counted down.
 use Prim.Native.Nat.{_-_}
 use mathlib.Core.Path.{_≡_}
 use lib.ListN.{length}

@@ -1,4 +1,4 @@
--- `request::fill` meets its contract: six puts, one after another. Assumes nothing.
+-- `request::fill` meets its contract: six puts, one after another.
 use Rattle.request.proofs.RequestLaws.{written}
 use borrow.Author.Needs.{needs}
 use Rattle.request.proofs.fill.Statement.{statement}

@@ -1,4 +1,4 @@
--- `request::put` meets its contract. The loop's invariant: i bytes are written. Assumes nothing.
+-- `request::put` meets its contract. The loop's invariant: i bytes are written.
 use Prim.Native.Nat.{ℕ, _-_, _≤_}
 use mathlib.Core.Path.{_≡_, _∙_, refl, ap}
 use native.Mathlib.Omega.{arith}

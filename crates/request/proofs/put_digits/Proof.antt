@@ -1,4 +1,4 @@
--- `request::put_digits` meets its contract. The loop's invariant: i digits are written. Assumes nothing.
+-- `request::put_digits` meets its contract. The loop's invariant: i digits are written.
 use Prim.Native.Nat.{ℕ, _+_, _-_, _≤_}
 use mathlib.Core.Path.{_≡_, _∙_, refl, ap}
 use native.Mathlib.Omega.{arith}

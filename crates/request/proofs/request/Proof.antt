@@ -1,4 +1,4 @@
--- `request::request` meets its contract: each return has a law. Assumes nothing.
+-- `request::request` meets its contract: each return has a law.
 use mathlib.Core.Path.{_≡_, sym, _∙_}
 use mathlib.Core.Bool.{true}
 use lib.ListN.{length}

@@ -1,4 +1,4 @@
--- `writer::write_body` meets its contract. Each plan has a law on the output. Assumes nothing.
+-- `writer::write_body` meets its contract. Each plan has a law on the output.
 use Prim.Native.Nat.{ℕ}
 use mathlib.Core.Path.{_≡_, _∙_, refl, sym}
 use mathlib.Core.List.{List}

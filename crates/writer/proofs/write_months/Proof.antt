@@ -1,4 +1,4 @@
--- `write_months` meets its contract. Assumes nothing.
+-- `write_months` meets its contract.
 use Prim.Native.Nat.{_-_}
 use denote.Ref.{now}
 use Rattle.digits.proofs.Placing.{no-room, with-room}

@@ -1,4 +1,4 @@
--- `write_update` meets its contract. Assumes nothing.
+-- `write_update` meets its contract.
 use denote.Ref.{now}
 use Rattle.rules.specs.Writer.{Fields}
 use Rattle.digits.proofs.Placing.{no-room, with-room}

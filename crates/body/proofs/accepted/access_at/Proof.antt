@@ -1,4 +1,4 @@
--- `accepted::access_at` meets its contract: a 203 alone has a next access. Assumes nothing.
+-- `accepted::access_at` meets its contract: a 203 alone has a next access.
 use borrow.Author.Needs.{needs}
 use Rattle.body.proofs.accepted.access_at.Statement.{statement}
 use Rattle.body.proofs.accepted.access_at.Tie as tie

@@ -1,4 +1,4 @@
--- `accepted::flag_at` meets its contract: a 203 alone has a flag. Assumes nothing.
+-- `accepted::flag_at` meets its contract: a 203 alone has a flag.
 use mathlib.Core.Path.{refl}
 use denote.Ref.{now}
 use Rattle.rules.specs.Body.{recordAt}

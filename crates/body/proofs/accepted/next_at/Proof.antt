@@ -1,4 +1,4 @@
--- `accepted::next_at` meets its contract, by the two answers of the calendar. Assumes nothing.
+-- `accepted::next_at` meets its contract, by the two answers of the calendar.
 use mathlib.Core.Path.{_∙_, sym}
 use denote.Ref.{now}
 use Rattle.form.proofs.Walk.{rates-here}

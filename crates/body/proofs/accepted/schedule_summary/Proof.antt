@@ -1,4 +1,4 @@
--- `accepted::schedule_summary` meets its contract: each field is that of `summaryOf`. Assumes nothing.
+-- `accepted::schedule_summary` meets its contract: each field is that of `summaryOf`.
 use native.Mathlib.Omega.{arith}
 use Rattle.form.proofs.Walk.{whole-start}
 use Rattle.body.proofs.Kept.{rates-room, summary-is}

@@ -1,4 +1,4 @@
--- `accepted::start_at` meets its contract, by the two answers of the calendar. Assumes nothing.
+-- `accepted::start_at` meets its contract, by the two answers of the calendar.
 use denote.Ref.{now}
 use Rattle.rules.specs.Digits.{part}
 use Rattle.rules.specs.Calendar.{startSlot}

@@ -1,4 +1,4 @@
--- `date_stage::dates_hold` meets its contract, format by format. Assumes nothing.
+-- `date_stage::dates_hold` meets its contract, format by format.
 use Rattle.form.proofs.Walk.{whole-start}
 use Rattle.body.proofs.Starts.{dates-201, dates-202, dates-203}
 use borrow.Author.Needs.{needs}

@@ -1,5 +1,5 @@
 -- `date_stage::months_hold` meets its contract. The invariant: what is left has its form, and its months from the present
--- one on give the whole answer. Assumes nothing.
+-- one on give the whole answer.
 use borrow.Author.Needs.{needs}
 use Prim.Native.Nat.{_≤_, _+_}
 use mathlib.Core.Path.{_≡_, _∙_, refl, sym}

@@ -1,4 +1,4 @@
--- `date_stage::rising_months_hold` meets its contract, by the two answers of the calendar for the first start. Assumes nothing.
+-- `date_stage::rising_months_hold` meets its contract, by the two answers of the calendar for the first start.
 use Prim.Native.Nat.{ℕ}
 use mathlib.Core.Path.{_∙_, sym, ap}
 use native.Mathlib.Omega.{arith}

@@ -1,4 +1,4 @@
--- `date_stage::update_dates_hold` meets its contract: start, rate count and next access are the record's. Assumes nothing.
+-- `date_stage::update_dates_hold` meets its contract: start, rate count and next access are the record's.
 use Rattle.form.proofs.Walk.{rates-here}
 use Rattle.body.proofs.Starts.{update-holds}
 use borrow.Author.Needs.{needs}

@@ -1,4 +1,4 @@
--- `date_stage::whole_month` meets its contract: start and rate count are the record's. Assumes nothing.
+-- `date_stage::whole_month` meets its contract: start and rate count are the record's.
 use Rattle.body.proofs.Starts.{month-holds}
 use borrow.Author.Needs.{needs}
 use Rattle.body.proofs.date_stage.whole_month.Statement.{statement}

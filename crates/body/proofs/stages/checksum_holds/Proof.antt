@@ -1,4 +1,4 @@
--- `stages::checksum_holds` meets its contract: the parts that are read are the record's fields. Assumes nothing.
+-- `stages::checksum_holds` meets its contract: the parts that are read are the record's fields.
 use native.Mathlib.Omega.{arith}
 use denote.Ref.{now}
 use Rattle.body.proofs.Fields.{checksum-fits}

@@ -1,4 +1,4 @@
--- `stages::rates_hold` meets its contract: the part that is looked at is the record's rates. Assumes nothing.
+-- `stages::rates_hold` meets its contract: the part that is looked at is the record's rates.
 use denote.Ref.{now}
 use Rattle.body.proofs.Fields.{rates-fit}
 use borrow.Author.Needs.{needs}

@@ -1,4 +1,4 @@
--- `stages::record_holds` meets its contract, stage by stage. Assumes nothing.
+-- `stages::record_holds` meets its contract, stage by stage.
 use Rattle.body.proofs.Fields.{plant-fits}
 use borrow.Author.Needs.{needs}
 use Rattle.body.proofs.stages.record_holds.Statement.{statement}

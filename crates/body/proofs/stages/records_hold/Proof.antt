@@ -1,4 +1,4 @@
--- `stages::records_hold` meets its contract. The invariant: what is left has its form, and its records give the whole answer. Assumes nothing.
+-- `stages::records_hold` meets its contract. The invariant: what is left has its form, and its records give the whole answer.
 use borrow.Author.Needs.{needs}
 use Prim.Native.Nat.{_+_}
 use mathlib.Core.Path.{_≡_, _∙_, refl, sym}

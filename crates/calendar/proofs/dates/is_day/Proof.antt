@@ -1,4 +1,4 @@
--- `dates::is_day` meets its contract: the length of the month is what `days_of_month` ensures. Assumes nothing.
+-- `dates::is_day` meets its contract: the length of the month is what `days_of_month` ensures.
 use borrow.Author.Needs.{needs}
 use Rattle.calendar.proofs.dates.is_day.Statement.{statement}
 use Rattle.calendar.proofs.dates.is_day.Tie as tie

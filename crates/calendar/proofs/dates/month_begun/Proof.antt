@@ -1,4 +1,4 @@
--- `dates::month_begun` meets its contract: each return has a law on the bytes that were read. Assumes nothing.
+-- `dates::month_begun` meets its contract: each return has a law on the bytes that were read.
 use Prim.Native.Nat.{_+_, _*_}
 use mathlib.Core.Path.{_≡_, _∙_, sym}
 use mathlib.Core.Bool.{Bool, _&&_}

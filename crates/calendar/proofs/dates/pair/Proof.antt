@@ -1,4 +1,4 @@
--- `dates::pair` meets its contract: a byte is below 256. Assumes nothing.
+-- `dates::pair` meets its contract: a byte is below 256.
 use Prim.Native.Nat.{_+_}
 use mathlib.Core.Path.{sym}
 use native.Mathlib.Omega.{arith}

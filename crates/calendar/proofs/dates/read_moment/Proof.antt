@@ -1,4 +1,4 @@
--- `dates::read_moment` meets its contract: each return has a law on the bytes that were read. Assumes nothing.
+-- `dates::read_moment` meets its contract: each return has a law on the bytes that were read.
 use Prim.Native.Nat.{ℕ, _+_, _*_, _-_}
 use mathlib.Core.List.{List}
 use mathlib.Core.Path.{_≡_, sym, ap, ap₂, _∙_}

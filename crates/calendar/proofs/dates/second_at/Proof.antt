@@ -1,4 +1,4 @@
--- `dates::second_at` meets its contract: every date that exists stands before the end of 2099, so no sum wraps. Assumes nothing.
+-- `dates::second_at` meets its contract: every date that exists stands before the end of 2099, so no sum wraps.
 use borrow.Author.Needs.{needs}
 use native.Mathlib.Omega.{arith}
 use Rattle.calendar.proofs.DateLaws.{date-day, date-below}

@@ -1,4 +1,4 @@
--- `dates::start_slot` meets its contract: each return has a law on the whole minute that was read. Assumes nothing.
+-- `dates::start_slot` meets its contract: each return has a law on the whole minute that was read.
 use Prim.Native.Nat.{ℕ}
 use mathlib.Core.Path.{_≡_, sym, ap, _∙_}
 use mathlib.Core.Bool.{_||_}

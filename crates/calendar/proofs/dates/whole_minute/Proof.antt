@@ -1,4 +1,4 @@
--- `dates::whole_minute` meets its contract: the first i digits are copied, and the rest are zeros. Assumes nothing.
+-- `dates::whole_minute` meets its contract: the first i digits are copied, and the rest are zeros.
 use Prim.Native.Nat.{_-_, _≤_}
 use mathlib.Core.Path.{_≡_, refl}
 use denote.Ref.{now}

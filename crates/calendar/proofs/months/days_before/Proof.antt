@@ -1,4 +1,4 @@
--- `months::days_before` meets its contract: the table is right: one test, computed over its 49 entries. Assumes nothing.
+-- `months::days_before` meets its contract: the table is right: one test, computed over its 49 entries.
 use borrow.Author.Needs.{needs}
 use mathlib.Core.Path.{refl}
 use Rattle.rules.specs.Calendar.{daysOfMonth, firstDay}

@@ -1,4 +1,4 @@
--- `months::days_of_month` meets its contract: the code follows the definition; a test counts as 1 or 0. Assumes nothing.
+-- `months::days_of_month` meets its contract: the code follows the definition; a test counts as 1 or 0.
 use borrow.Author.Needs.{needs}
 use Prim.Native.Nat.{ℕ, _+_, _/_, _%_}
 use mathlib.Core.Path.{_≡_, refl, ap}

@@ -1,4 +1,4 @@
--- `months::entry` meets its contract: a right table holds the days before each month. Assumes nothing.
+-- `months::entry` meets its contract: a right table holds the days before each month.
 use borrow.Author.Needs.{needs}
 use denote.Ref.{now}
 use Rattle.calendar.proofs.Search.{table-is, table-fits}

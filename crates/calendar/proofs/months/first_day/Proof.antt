@@ -1,4 +1,4 @@
--- `months::first_day` meets its contract: 48 months are 1,461 days, and the rest is the table's. Assumes nothing.
+-- `months::first_day` meets its contract: 48 months are 1,461 days, and the rest is the table's.
 use borrow.Author.Needs.{needs}
 use Prim.Native.Nat.{_+_, _*_, _/_, _%_}
 use mathlib.Core.Path.{_≡_, ap}

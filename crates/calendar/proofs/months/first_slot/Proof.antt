@@ -1,4 +1,4 @@
--- `months::first_slot` meets its contract: no month of 16 bits is past what 32 bits hold. Assumes nothing.
+-- `months::first_slot` meets its contract: no month of 16 bits is past what 32 bits hold.
 use borrow.Author.Needs.{needs}
 use native.Mathlib.Omega.{arith}
 use Rattle.calendar.proofs.Laws.{first-day-most}

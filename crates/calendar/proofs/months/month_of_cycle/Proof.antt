@@ -1,4 +1,4 @@
--- `months::month_of_cycle` meets its contract: the guess is the month or the one before it. Assumes nothing.
+-- `months::month_of_cycle` meets its contract: the guess is the month or the one before it.
 use borrow.Author.Needs.{needs}
 use native.Mathlib.Omega.{arith}
 use Rattle.calendar.proofs.Search.{guess-next, guess-here}

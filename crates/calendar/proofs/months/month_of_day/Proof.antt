@@ -1,4 +1,4 @@
--- `months::month_of_day` meets its contract: a day lies in one month, whichever way it is found. Assumes nothing.
+-- `months::month_of_day` meets its contract: a day lies in one month, whichever way it is found.
 use borrow.Author.Needs.{needs}
 use Prim.Native.Nat.{_+_, _*_, _/_, _%_}
 use mathlib.Core.Path.{_≡_, sym}

@@ -1,5 +1,4 @@
 -- `buffer::copy` meets its contract. The loop's invariant: below i the two are the same.
--- Assumes nothing.
 use Prim.Native.Nat.{_≤_, _-_}
 use mathlib.Core.Path.{_≡_, _∙_, refl, sym}
 use native.Mathlib.Omega.{arith}

@@ -1,4 +1,4 @@
--- `buffer::put` meets its contract: what there is room for is copied into that part of the buffer. Assumes nothing.
+-- `buffer::put` meets its contract: what there is room for is copied into that part of the buffer.
 use native.Mathlib.Omega.{arith}
 use denote.Ref.{now}
 use lib.ListN.{length-take, length-drop}

@@ -1,5 +1,5 @@
 -- `error_file::utf8::is_utf8` meets its contract. The loop's invariant: what the walk says of the bytes that are left is the whole answer.
--- The measure is what is left of the length. Assumes nothing.
+-- The measure is what is left of the length.
 use Prim.Native.Nat.{_≤_, _-_}
 use mathlib.Core.Path.{_≡_, _∙_, refl, sym, ap}
 use native.Mathlib.Omega.{arith}

@@ -1,4 +1,4 @@
--- `error_file::utf8::more_after` meets its contract. Assumes nothing.
+-- `error_file::utf8::more_after` meets its contract.
 use borrow.Author.Tests.{le-leb, lt-leb}
 use Rattle.rules.specs.ErrorFile.{more}
 use Rattle.error_file.proofs.utf8.more_after.Statement.{statement}

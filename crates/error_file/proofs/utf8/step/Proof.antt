@@ -1,5 +1,4 @@
 -- `error_file::utf8::step` meets its contract: the walk after x answers of what is left as the walk before it does of x and what is left.
--- Assumes nothing.
 use native.Mathlib.Omega.{arith}
 use borrow.Author.Needs.{needs}
 use Rattle.error_file.proofs.Text.{lead, follows}

@@ -1,4 +1,4 @@
--- `dates::is_update` meets its contract, by the answers of the calendar for start and next access. Assumes nothing.
+-- `dates::is_update` meets its contract, by the answers of the calendar for start and next access.
 use mathlib.Core.Path.{_∙_, sym}
 use Rattle.layout.proofs.Starts.{update-no-start, update-no-next, update-is}
 use borrow.Author.Needs.{needs}

@@ -1,4 +1,4 @@
--- `dates::is_whole_month` meets its contract, by the two answers of the calendar for the start. Assumes nothing.
+-- `dates::is_whole_month` meets its contract, by the two answers of the calendar for the start.
 use mathlib.Core.Path.{_∙_, sym}
 use Rattle.layout.proofs.Starts.{no-month, is-month}
 use borrow.Author.Needs.{needs}

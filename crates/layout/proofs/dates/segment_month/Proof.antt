@@ -1,4 +1,4 @@
--- `dates::segment_month` meets its contract: four digits are two pairs. Assumes nothing.
+-- `dates::segment_month` meets its contract: four digits are two pairs.
 use Rattle.layout.proofs.Starts.{segment-month-is}
 use borrow.Author.Needs.{needs}
 use Rattle.layout.proofs.dates.segment_month.Statement.{statement}

@@ -1,4 +1,4 @@
--- `formats::fixed_bytes` meets its contract: 13 records of 55 bytes are the most. Assumes nothing.
+-- `formats::fixed_bytes` meets its contract: 13 records of 55 bytes are the most.
 use native.Mathlib.Omega.{arith}
 use Rattle.layout.proofs.Counts.{fixed-is}
 use borrow.Author.Needs.{needs}

@@ -1,4 +1,4 @@
--- `record::checksum` meets its contract. Assumes nothing.
+-- `record::checksum` meets its contract.
 use mathlib.Core.Path.{_∙_, refl}
 use Rattle.layout.specs.Records.{checksumFor}
 use borrow.Author.Needs.{needs}

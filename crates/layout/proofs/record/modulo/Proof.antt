@@ -1,4 +1,4 @@
--- `record::modulo` meets its contract: a number modulo 0 is the number. Assumes nothing.
+-- `record::modulo` meets its contract: a number modulo 0 is the number.
 use mathlib.Core.Path.{sym}
 use native.Mathlib.Nat.{mod-zero}
 use borrow.Author.Needs.{needs}

@@ -1,4 +1,4 @@
--- `record::rate_count` meets its contract: five digits, each a byte. Assumes nothing.
+-- `record::rate_count` meets its contract: five digits, each a byte.
 use native.Mathlib.Omega.{arith}
 use denote.Ref.{now}
 use Rattle.layout.proofs.Counts.{count-short, count-read}

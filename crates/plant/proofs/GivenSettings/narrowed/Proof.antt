@@ -1,4 +1,4 @@
--- `plant::GivenSettings::narrowed` meets its contract. Assumes nothing.
+-- `plant::GivenSettings::narrowed` meets its contract.
 use borrow.Author.Needs.{needs}
 use Rattle.plant.proofs.GivenSettings.narrowed.Statement.{statement}
 use Rattle.plant.proofs.GivenSettings.narrowed.Tie as tie

@@ -1,4 +1,4 @@
--- `plant::GivenSettings::valid` meets its contract. Assumes nothing.
+-- `plant::GivenSettings::valid` meets its contract.
 use mathlib.Core.Path.{refl}
 use borrow.Author.Needs.{needs}
 use Rattle.rules.specs.Plant.{validSettings}

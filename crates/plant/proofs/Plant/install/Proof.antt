@@ -1,4 +1,4 @@
--- `plant::Plant::install` meets its contract: each way out is one law. Assumes nothing.
+-- `plant::Plant::install` meets its contract: each way out is one law.
 use mathlib.Core.Path.{_≡_, sym, ap, _∙_}
 use mathlib.Core.Bool.{true, _&&_}
 use denote.Ref.{now}

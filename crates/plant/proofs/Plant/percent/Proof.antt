@@ -1,4 +1,4 @@
--- `plant::Plant::percent` meets its contract. Assumes nothing.
+-- `plant::Plant::percent` meets its contract.
 use mathlib.Core.Path.{refl, sym}
 use native.Mathlib.Omega.{arith}
 use Rattle.rules.specs.Plant.{percent}

@@ -1,4 +1,4 @@
--- `plant::Plant::valid` meets its contract. Assumes nothing.
+-- `plant::Plant::valid` meets its contract.
 use mathlib.Core.Path.{refl}
 use Rattle.plant.specs.Plant.{validPlant}
 use borrow.Author.Needs.{needs}

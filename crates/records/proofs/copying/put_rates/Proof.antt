@@ -1,4 +1,4 @@
--- `copying::put_rates` meets its contract. The invariant: the rates that are left, put at the place, give the whole. Assumes nothing.
+-- `copying::put_rates` meets its contract. The invariant: the rates that are left, put at the place, give the whole.
 use borrow.Author.Needs.{needs}
 use native.Mathlib.Omega.{arith}
 use Rattle.records.proofs.Joined.{Going, going-start, going-end, rates-inside, rates-room, next-inside, going-next}

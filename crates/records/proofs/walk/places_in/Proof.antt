@@ -1,4 +1,4 @@
--- `walk::places_in` meets its contract. The invariant: the walk is where record k begins. Assumes nothing.
+-- `walk::places_in` meets its contract. The invariant: the walk is where record k begins.
 use borrow.Author.Needs.{needs}
 use Prim.Native.Nat.{_≤_, _-_}
 use mathlib.Core.Path.{_≡_}

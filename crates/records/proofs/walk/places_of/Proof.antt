@@ -1,4 +1,4 @@
--- `walk::places_of` meets its contract. Assumes nothing.
+-- `walk::places_of` meets its contract.
 use Rattle.records.proofs.Walking.{places-are}
 use borrow.Author.Needs.{needs}
 use Rattle.records.proofs.walk.places_of.Statement.{statement}

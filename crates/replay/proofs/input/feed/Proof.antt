@@ -1,4 +1,4 @@
--- `replay::input::feed` is safe and ends: each turn passes a byte at least. Assumes nothing.
+-- `replay::input::feed` is safe and ends: each turn passes a byte at least.
 use Prim.Native.Nat.{_-_}
 use mathlib.Core.Path.{_≡_}
 use native.Mathlib.Omega.{arith}

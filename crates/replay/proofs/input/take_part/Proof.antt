@@ -1,4 +1,4 @@
--- `replay::input::take_part` is safe and ends. Assumes nothing.
+-- `replay::input::take_part` is safe and ends.
 use Prim.Native.Nat.{_-_}
 use native.Mathlib.Omega.{arith}
 use lib.ListN.{length-take}

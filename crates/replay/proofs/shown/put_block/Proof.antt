@@ -1,4 +1,4 @@
--- `replay::shown::put_block` is safe and ends: a month's block lies within the store. Assumes nothing.
+-- `replay::shown::put_block` is safe and ends: a month's block lies within the store.
 use Prim.Native.Nat.{_<_}
 use mathlib.Core.Path.{sym, _∙_}
 use native.Mathlib.Omega.{arith}

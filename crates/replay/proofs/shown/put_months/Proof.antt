@@ -1,4 +1,4 @@
--- `replay::shown::put_months` is safe and ends. Assumes nothing.
+-- `replay::shown::put_months` is safe and ends.
 use Prim.Native.Nat.{_≤_, _-_}
 use mathlib.Core.Path.{_≡_}
 use lib.ListN.{length}

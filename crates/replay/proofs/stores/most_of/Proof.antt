@@ -1,4 +1,4 @@
--- `replay::stores::most_of` meets its contract. Assumes nothing.
+-- `replay::stores::most_of` meets its contract.
 use Prim.Native.Nat.{_≤_}
 use mathlib.Core.Path.{sym}
 use native.Mathlib.Omega.{arith}

@@ -1,4 +1,4 @@
--- `needed::end_month` meets its contract. Assumes nothing.
+-- `needed::end_month` meets its contract.
 use Prim.Native.Nat.{suc, _-_}
 use mathlib.Core.Path.{sym, ap, _∙_}
 use native.Mathlib.Numerals.{add-one}

@@ -1,4 +1,4 @@
--- `needed::lacks` meets its contract. Assumes nothing.
+-- `needed::lacks` meets its contract.
 use mathlib.Core.Path.{sym, ap, _∙_}
 use borrow.Author.Needs.{needs}
 use Rattle.rules.specs.Machine.{one}

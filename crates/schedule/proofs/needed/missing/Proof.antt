@@ -1,4 +1,4 @@
--- `needed::missing` meets its contract. The loop's invariant: the months below this one that need a block are counted. Assumes nothing.
+-- `needed::missing` meets its contract. The loop's invariant: the months below this one that need a block are counted.
 use Prim.Native.Nat.{_≤_, _<_, _+_, _-_, min, max}
 use mathlib.Core.Path.{_≡_, sym, ap, _∙_}
 use native.Mathlib.Omega.{arith}

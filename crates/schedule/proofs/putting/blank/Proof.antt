@@ -1,4 +1,4 @@
--- `putting::blank` meets its contract. The loop's invariant: below i every byte is 255. Assumes nothing.
+-- `putting::blank` meets its contract. The loop's invariant: below i every byte is 255.
 use Prim.Native.Nat.{_≤_, _-_}
 use mathlib.Core.Path.{_≡_, refl}
 use mathlib.Core.List.{_++_}

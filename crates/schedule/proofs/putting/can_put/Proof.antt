@@ -1,4 +1,4 @@
--- `putting::can_put` meets its contract. Assumes nothing.
+-- `putting::can_put` meets its contract.
 use Prim.Native.Nat.{ℕ, suc, _+_}
 use mathlib.Core.Path.{_≡_, ap, _∙_}
 use mathlib.Core.Bool.{_&&_}

@@ -1,4 +1,4 @@
--- `putting::lay` meets its contract. The loop's invariant: below i stand the bytes of the rates. Assumes nothing.
+-- `putting::lay` meets its contract. The loop's invariant: below i stand the bytes of the rates.
 use Prim.Native.Nat.{_≤_, _-_}
 use mathlib.Core.Path.{_≡_, _∙_, refl, sym}
 use native.Mathlib.Omega.{arith}

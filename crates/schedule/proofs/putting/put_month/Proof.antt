@@ -1,4 +1,4 @@
--- `putting::put_month` meets its contract. Assumes nothing.
+-- `putting::put_month` meets its contract.
 use Prim.Native.Nat.{suc, _+_, _-_, min}
 use mathlib.Core.Path.{_≡_, ap, _∙_}
 use native.Mathlib.Numerals.{add-one}

@@ -1,4 +1,4 @@
--- `putting::put_run` meets its contract. Assumes nothing.
+-- `putting::put_run` meets its contract.
 use Prim.Native.Nat.{_≤_}
 use mathlib.Core.Path.{_≡_, sym, ap, _∙_}
 use mathlib.Core.Bool.{true}

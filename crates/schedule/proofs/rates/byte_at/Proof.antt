@@ -1,4 +1,4 @@
--- `rates::byte_at` meets its contract. Assumes nothing.
+-- `rates::byte_at` meets its contract.
 use mathlib.Core.Path.{sym}
 use denote.Ref.{now}
 use lib.ListN.{List·getD-eq-default}

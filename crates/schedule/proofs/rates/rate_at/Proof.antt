@@ -1,4 +1,4 @@
--- `rates::rate_at` meets its contract. Assumes nothing.
+-- `rates::rate_at` meets its contract.
 use Prim.Native.Nat.{ℕ, _≤_, _<_, _-_}
 use mathlib.Core.Path.{_≡_, sym, ap, _∙_}
 use native.Mathlib.Omega.{arith}

@@ -1,4 +1,4 @@
--- `rates::rate_of` meets its contract. Assumes nothing.
+-- `rates::rate_of` meets its contract.
 use Rattle.schedule.proofs.RateLaws.{byte-none, byte-some}
 use Rattle.schedule.proofs.rates.rate_of.Statement.{statement}
 use Rattle.schedule.proofs.rates.rate_of.Tie as tie

@@ -1,4 +1,4 @@
--- `sound::all_blank` meets its contract. The loop's invariant: the flag says that the bytes below i are 255. Assumes nothing.
+-- `sound::all_blank` meets its contract. The loop's invariant: the flag says that the bytes below i are 255.
 use Prim.Native.Nat.{_≤_, _-_}
 use mathlib.Core.Path.{_≡_, _∙_, refl, sym}
 use mathlib.Core.Bool.{_&&_}

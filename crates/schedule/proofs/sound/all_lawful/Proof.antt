@@ -1,4 +1,4 @@
--- `sound::all_lawful` meets its contract. The loop's invariant: `worst` is a rate's rank where the bytes below i are rates or 255. Assumes nothing.
+-- `sound::all_lawful` meets its contract. The loop's invariant: `worst` is a rate's rank where the bytes below i are rates or 255.
 use Prim.Native.Nat.{_≤_, _-_}
 use mathlib.Core.Path.{_≡_, _∙_, refl, sym}
 use mathlib.Core.Bool.{_&&_}

@@ -1,4 +1,4 @@
--- `sound::block_holds` meets its contract: the month's end lies within the block. Assumes nothing.
+-- `sound::block_holds` meets its contract: the month's end lies within the block.
 use Prim.Native.Nat.{_≤_, _*_}
 use mathlib.Core.Path.{sym}
 use native.Mathlib.Omega.{arith}

@@ -1,4 +1,4 @@
--- `sound::place_holds` meets its contract. Assumes nothing.
+-- `sound::place_holds` meets its contract.
 use Prim.Native.Nat.{_*_, _-_}
 use mathlib.Core.Path.{ap, _∙_}
 use native.Mathlib.Omega.{arith}

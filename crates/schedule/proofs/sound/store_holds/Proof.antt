@@ -1,4 +1,4 @@
--- `sound::store_holds` meets its contract. The loop's invariant: the flag says that the held blocks below b are sound. Assumes nothing.
+-- `sound::store_holds` meets its contract. The loop's invariant: the flag says that the held blocks below b are sound.
 use Prim.Native.Nat.{_≤_, _-_}
 use mathlib.Core.Path.{_≡_}
 use native.Mathlib.Omega.{arith}

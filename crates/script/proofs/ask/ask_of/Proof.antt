@@ -1,4 +1,4 @@
--- `script::ask::ask_of` meets its contract: a return for each number of words. Assumes nothing.
+-- `script::ask::ask_of` meets its contract: a return for each number of words.
 use Prim.Native.Nat.{ℕ}
 use mathlib.Core.Path.{_≡_, _∙_, sym, ap}
 use mathlib.Core.Bool.{false}

@@ -1,4 +1,4 @@
--- `script::ask::ask_six` meets its contract: a return for each word. Assumes nothing.
+-- `script::ask::ask_six` meets its contract: a return for each word.
 use mathlib.Core.Path.{_∙_, refl, sym}
 use borrow.Author.Needs.{needs}
 use Rattle.script.specs.Ask.{askSix}

@@ -1,4 +1,4 @@
--- `script::ask::block_ask` meets its contract. Assumes nothing.
+-- `script::ask::block_ask` meets its contract.
 use mathlib.Core.Path.{refl}
 use borrow.Author.Needs.{needs}
 use Rattle.script.proofs.ask.block_ask.Statement.{statement}

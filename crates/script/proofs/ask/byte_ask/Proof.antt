@@ -1,4 +1,4 @@
--- `script::ask::byte_ask` meets its contract. Assumes nothing.
+-- `script::ask::byte_ask` meets its contract.
 use borrow.Author.Needs.{needs}
 use Rattle.script.proofs.AskLaws.{byte-high, byte-given}
 use Rattle.script.proofs.ask.byte_ask.Statement.{statement}

@@ -1,4 +1,4 @@
--- `script::ask::ceiling_ask` meets its contract. Assumes nothing.
+-- `script::ask::ceiling_ask` meets its contract.
 use mathlib.Core.Path.{refl}
 use borrow.Author.Needs.{needs}
 use Rattle.script.proofs.ask.ceiling_ask.Statement.{statement}

@@ -1,4 +1,4 @@
--- `script::ask::failure_ask` meets its contract: a return for each word. Assumes nothing.
+-- `script::ask::failure_ask` meets its contract: a return for each word.
 use mathlib.Core.Path.{_≡_, _∙_, refl, sym}
 use mathlib.Core.Bool.{false}
 use borrow.Author.Needs.{needs}

@@ -1,4 +1,4 @@
--- `script::ask::install_ask` meets its contract. Assumes nothing.
+-- `script::ask::install_ask` meets its contract.
 use mathlib.Core.Path.{refl}
 use borrow.Author.Needs.{needs}
 use Rattle.script.proofs.ask.install_ask.Statement.{statement}

@@ -1,4 +1,4 @@
--- `script::ask::is_silent` meets its contract. Assumes nothing.
+-- `script::ask::is_silent` meets its contract.
 use borrow.Author.Needs.{needs}
 use denote.Ref.{now}
 use Rattle.script.proofs.AskLaws.{empty-silent, first-silent}

@@ -1,4 +1,4 @@
--- `script::ask::status_ask` meets its contract. Assumes nothing.
+-- `script::ask::status_ask` meets its contract.
 use mathlib.Core.Path.{refl}
 use borrow.Author.Needs.{needs}
 use Rattle.script.proofs.ask.status_ask.Statement.{statement}

@@ -1,4 +1,4 @@
--- `script::ask::store_ask` meets its contract. Assumes nothing.
+-- `script::ask::store_ask` meets its contract.
 use borrow.Author.Needs.{needs}
 use Rattle.script.proofs.AskLaws.{store-long, store-high, store-given}
 use Rattle.script.proofs.ask.store_ask.Statement.{statement}

@@ -1,4 +1,4 @@
--- `script_fields::field::either` meets its contract: a marked word, an empty one, and a plain one. Assumes nothing.
+-- `script_fields::field::either` meets its contract: a marked word, an empty one, and a plain one.
 use mathlib.Core.Path.{_≡_, sym, _∙_, ap}
 use mathlib.Core.List.{List, map}
 use Prim.Native.Nat.{ℕ}

@@ -1,4 +1,4 @@
--- `script_fields::field::hex_of` meets its contract. Assumes nothing.
+-- `script_fields::field::hex_of` meets its contract.
 use mathlib.Core.Path.{sym, _∙_, refl}
 use mathlib.Core.List.{[]}
 use native.Mathlib.Omega.{arith}

@@ -1,4 +1,4 @@
--- `script_fields::field::is_marked` meets its contract. Assumes nothing.
+-- `script_fields::field::is_marked` meets its contract.
 use mathlib.Core.Path.{sym}
 use borrow.Author.Needs.{needs}
 use borrow.Author.Tests.{le-leb, lt-leb}

@@ -1,4 +1,4 @@
--- `script_fields::field::plain_byte` meets its contract. Assumes nothing.
+-- `script_fields::field::plain_byte` meets its contract.
 use mathlib.Core.Bool.{_&&_}
 use native.Mathlib.Omega.{arith}
 use lib.Dec.{leb}

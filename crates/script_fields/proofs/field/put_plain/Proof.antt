@@ -1,4 +1,4 @@
--- `script_fields::field::put_plain` meets its contract. The loop's invariant: i bytes are written. Assumes nothing.
+-- `script_fields::field::put_plain` meets its contract. The loop's invariant: i bytes are written.
 use Prim.Native.Nat.{ℕ, _-_, _≤_, _<_}
 use mathlib.Core.Path.{_≡_, _∙_, refl, ap}
 use mathlib.Core.List.{map}

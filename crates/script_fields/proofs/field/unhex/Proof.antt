@@ -1,4 +1,4 @@
--- `script_fields::field::unhex` meets its contract. Assumes nothing.
+-- `script_fields::field::unhex` meets its contract.
 use mathlib.Core.Path.{_≡_, sym, _∙_}
 use mathlib.Core.Bool.{true}
 use native.Mathlib.Omega.{arith}

@@ -1,4 +1,4 @@
--- `script_fields::hex::glyph` meets its contract. Assumes nothing.
+-- `script_fields::hex::glyph` meets its contract.
 use borrow.Author.Needs.{needs}
 use borrow.Author.Tests.{lt-ltb, le-ltb}
 use Rattle.script_fields.proofs.hex.glyph.Statement.{statement}

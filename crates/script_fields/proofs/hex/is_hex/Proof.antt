@@ -1,4 +1,4 @@
--- `script_fields::hex::is_hex` meets its contract: the flag and the pairs to come give the answer. Assumes nothing.
+-- `script_fields::hex::is_hex` meets its contract: the flag and the pairs to come give the answer.
 use mathlib.Core.Path.{_≡_, _∙_, sym, refl}
 use mathlib.Core.Bool.{_&&_}
 use borrow.Author.Needs.{needs}

@@ -1,4 +1,4 @@
--- `script_fields::hex::nibble` meets its contract: the three kinds of digit, and any other byte. Assumes nothing.
+-- `script_fields::hex::nibble` meets its contract: the three kinds of digit, and any other byte.
 use native.Mathlib.Omega.{arith}
 use borrow.Author.Needs.{needs}
 use Rattle.script_fields.specs.Hex.{nibble}

@@ -1,4 +1,4 @@
--- `script_fields::put::put_hex` meets its contract: a return for each test of the room, and the text put. Assumes nothing.
+-- `script_fields::put::put_hex` meets its contract: a return for each test of the room, and the text put.
 use Prim.Native.Nat.{ℕ}
 use mathlib.Core.Path.{_∙_, sym, ap}
 use native.Mathlib.Omega.{arith}

@@ -1,4 +1,4 @@
--- `script_fields::put::put_number` meets its contract: the bytes of the number's line are its numeral. Assumes nothing.
+-- `script_fields::put::put_number` meets its contract: the bytes of the number's line are its numeral.
 use mathlib.Core.Path.{_∙_, sym, ap}
 use borrow.Author.Needs.{needs}
 use lib.Seq.{length-take-le}

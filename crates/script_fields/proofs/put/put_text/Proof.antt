@@ -1,4 +1,4 @@
--- `script_fields::put::put_text` meets its contract: a return for each test of the room, and the text put. Assumes nothing.
+-- `script_fields::put::put_text` meets its contract: a return for each test of the room, and the text put.
 use mathlib.Core.Path.{refl}
 use native.Mathlib.Omega.{arith}
 use borrow.Author.Needs.{needs}

@@ -1,4 +1,4 @@
--- `script_words::number::more` meets its contract: a law for each return. Assumes nothing.
+-- `script_words::number::more` meets its contract: a law for each return.
 use mathlib.Core.Path.{sym}
 use borrow.Author.Needs.{needs}
 use Rattle.script_words.proofs.NumberLaws.{no-digit-low, no-digit-high, too-great, next-number}

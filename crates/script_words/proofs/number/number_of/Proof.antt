@@ -1,4 +1,4 @@
--- `script_words::number::number_of` meets its contract: the number so far and the digits to come give the number. Assumes nothing.
+-- `script_words::number::number_of` meets its contract: the number so far and the digits to come give the number.
 use Prim.Native.Nat.{_≤_, _-_}
 use mathlib.Core.Path.{_≡_, _∙_, sym}
 use native.Mathlib.Omega.{arith}

@@ -1,4 +1,4 @@
--- `script_words::words::place` meets its contract: the bytes passed are others. Assumes nothing.
+-- `script_words::words::place` meets its contract: the bytes passed are others.
 use Prim.Native.Nat.{_≤_, _-_, _+_}
 use mathlib.Core.Path.{_≡_, _∙_, sym}
 use native.Mathlib.Omega.{arith}

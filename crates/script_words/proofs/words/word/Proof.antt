@@ -1,4 +1,4 @@
--- `script_words::words::word` meets its contract: a word fewer of what is left of the line. Assumes nothing.
+-- `script_words::words::word` meets its contract: a word fewer of what is left of the line.
 use Prim.Native.Nat.{_-_}
 use mathlib.Core.Path.{_≡_, _∙_, sym, refl}
 use borrow.Author.Needs.{needs}

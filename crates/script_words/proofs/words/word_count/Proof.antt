@@ -1,4 +1,4 @@
--- `script_words::words::word_count` meets its contract: the count and the spaces to come are those of the line. Assumes nothing.
+-- `script_words::words::word_count` meets its contract: the count and the spaces to come are those of the line.
 use Prim.Native.Nat.{ℕ, _≤_, _-_, _+_}
 use mathlib.Core.Path.{_≡_, _∙_, sym, ap}
 use mathlib.Core.Logic.{⊎-elim}

@@ -1,4 +1,4 @@
--- `put::put_records` meets its contract. The invariant: the records that are left follow on, and putting them gives the whole. Assumes nothing.
+-- `put::put_records` meets its contract. The invariant: the records that are left follow on, and putting them gives the whole.
 use borrow.Author.Needs.{needs}
 use Prim.Native.Nat.{_+_}
 use mathlib.Core.Path.{_≡_, _∙_, refl, sym}

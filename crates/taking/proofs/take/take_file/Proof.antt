@@ -1,4 +1,4 @@
--- `take::take_file` meets its contract. Assumes nothing.
+-- `take::take_file` meets its contract.
 use mathlib.Core.Path.{_≡_, sym, ap, ap₂, _∙_}
 use mathlib.Core.Bool.{Bool, true, _&&_}
 use lib.ListN.{length}

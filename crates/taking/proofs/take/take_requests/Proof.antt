@@ -1,4 +1,4 @@
--- `take::take_requests` meets its contract, format by format. Assumes nothing.
+-- `take::take_requests` meets its contract, format by format.
 use mathlib.Core.Path.{refl, ap}
 use Rattle.polling.specs.Requests.{requestsOf}
 use borrow.Author.Needs.{needs}

@@ -1,4 +1,4 @@
--- `unit::Unit::ceiling` meets its contract. Assumes nothing.
+-- `unit::Unit::ceiling` meets its contract.
 use borrow.Author.Needs.{needs}
 use Rattle.unit.proofs.Unit.ceiling.Statement.{statement}
 use Rattle.unit.proofs.Unit.ceiling.Tie as tie

@@ -1,4 +1,4 @@
--- `unit::Unit::command` meets its contract. Assumes nothing.
+-- `unit::Unit::command` meets its contract.
 use borrow.Author.Needs.{needs}
 use Rattle.unit.proofs.Unit.command.Statement.{statement}
 use Rattle.unit.proofs.Unit.command.Tie as tie

@@ -1,4 +1,4 @@
--- `unit::Unit::command_at` meets its contract. Assumes nothing.
+-- `unit::Unit::command_at` meets its contract.
 use borrow.Author.Needs.{needs}
 use Rattle.unit.proofs.Unit.command_at.Statement.{statement}
 use Rattle.unit.proofs.Unit.command_at.Tie as tie

@@ -1,4 +1,4 @@
--- `unit::Unit::due` meets its contract. Assumes nothing.
+-- `unit::Unit::due` meets its contract.
 use borrow.Author.Needs.{needs}
 use Rattle.unit.proofs.Unit.due.Statement.{statement}
 use Rattle.unit.proofs.Unit.due.Tie as tie

@@ -1,4 +1,4 @@
--- `unit::Unit::free_blocks` meets its contract. Assumes nothing.
+-- `unit::Unit::free_blocks` meets its contract.
 use borrow.Author.Needs.{needs}
 use Rattle.unit.proofs.Unit.free_blocks.Statement.{statement}
 use Rattle.unit.proofs.Unit.free_blocks.Tie as tie

@@ -1,4 +1,4 @@
--- `unit::Unit::request` meets its contract. Assumes nothing.
+-- `unit::Unit::request` meets its contract.
 use mathlib.Core.Path.{refl}
 use borrow.Author.Needs.{needs}
 use Rattle.unit.proofs.Unit.request.Statement.{statement}

@@ -1,4 +1,4 @@
--- `unit::Unit::request_answer` meets its contract. Assumes nothing.
+-- `unit::Unit::request_answer` meets its contract.
 use mathlib.Core.Path.{sym, _∙_}
 use denote.Ref.{now}
 use borrow.Author.Tests.{not-true, not-false}

@@ -1,4 +1,4 @@
--- `unit::Unit::set_clock` meets its contract. Assumes nothing.
+-- `unit::Unit::set_clock` meets its contract.
 use Rattle.unit.specs.Calls.{setClock, withCommand}
 use borrow.Author.Needs.{needs}
 use Rattle.unit.proofs.Unit.set_clock.Statement.{statement}

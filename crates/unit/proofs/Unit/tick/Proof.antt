@@ -1,4 +1,4 @@
--- `unit::Unit::tick` meets its contract. Assumes nothing.
+-- `unit::Unit::tick` meets its contract.
 use mathlib.Core.Path.{_≡_, sym, ap, ap₂, _∙_}
 use mathlib.Core.Bool.{true, _&&_}
 use native.Mathlib.Omega.{arith}

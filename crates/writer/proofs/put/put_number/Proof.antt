@@ -1,5 +1,4 @@
 -- `put::put_number` meets its contract. The loop's invariant: the digits of what is left, put before i, give the whole number's.
--- Assumes nothing.
 use Prim.Native.Nat.{_≤_, _-_, _+_}
 use mathlib.Core.Path.{_≡_, _∙_, refl, sym}
 use native.Mathlib.Omega.{arith}

@@ -1,4 +1,4 @@
--- `record::month_start` meets its contract. Assumes nothing.
+-- `record::month_start` meets its contract.
 use Rattle.writer.proofs.Records.{start-is}
 use borrow.Author.Needs.{needs}
 use Rattle.writer.proofs.record.month_start.Statement.{statement}

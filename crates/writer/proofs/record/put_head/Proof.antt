@@ -1,4 +1,4 @@
--- `record::put_head` meets its contract: each field is put where the one before it ends. Assumes nothing.
+-- `record::put_head` meets its contract: each field is put where the one before it ends.
 use denote.Ref.{now}
 use Rattle.writer.proofs.Records.{head-placed}
 use borrow.Author.Needs.{needs}

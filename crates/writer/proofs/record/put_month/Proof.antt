@@ -1,4 +1,4 @@
--- `record::put_month` meets its contract. Assumes nothing.
+-- `record::put_month` meets its contract.
 use denote.Ref.{now}
 use Rattle.writer.proofs.Records.{month-placed}
 use borrow.Author.Needs.{needs}

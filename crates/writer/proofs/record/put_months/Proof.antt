@@ -1,4 +1,4 @@
--- `record::put_months` meets its contract. The invariant: the months that are left, put at the place, give the whole. Assumes nothing.
+-- `record::put_months` meets its contract. The invariant: the months that are left, put at the place, give the whole.
 use Prim.Native.Nat.{_-_}
 use native.Mathlib.Omega.{arith}
 use borrow.Author.Needs.{needs}

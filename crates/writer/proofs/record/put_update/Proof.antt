@@ -1,4 +1,4 @@
--- `record::put_update` meets its contract. Assumes nothing.
+-- `record::put_update` meets its contract.
 use mathlib.Core.Path.{_∙_}
 use native.Mathlib.Omega.{arith}
 use denote.Ref.{now}

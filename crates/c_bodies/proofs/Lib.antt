@@ -1,0 +1,1 @@
+pub mod Apart  -- a body taken apart by the number of its format
