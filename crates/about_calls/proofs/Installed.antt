@@ -102,7 +102,7 @@ install-fresh id mac set e = record {
 
 -- ---- refused: a unit that every call refuses
 
-none-sound : isSound (freshUnit noPlant) ≡ false
+pub none-sound : isSound (freshUnit noPlant) ≡ false
 unfolding freshUnit
 none-sound = sound-is (freshUnit noPlant) ∙ rw no-plant refl
 

@@ -1,28 +1,27 @@
 -- The theorem for C: the unit's, and the list from C is the unit's; from jag_install on, accepted or refused.
 use Prim.Native.Nat.{ℕ}
 use mathlib.Core.Path.{_≡_, refl, ap, _∙_}
-use mathlib.Core.Bool.{true, false}
+use mathlib.Core.Bool.{true}
 use mathlib.Core.List.{List}
 use native.Mathlib.Omega.{arith}
-use Rattle.rules.specs.Causes.{accepted, refused, numberOf}
-use Rattle.rules.specs.Digits.{allAtMost}
-use Rattle.rules.specs.Plant.{Settings, installing, plantId, checkDigit, weightedSum, macAddress, allHex}
+use Rattle.rules.specs.Causes.{numberOf}
+use Rattle.rules.specs.Plant.{Settings, installing}
 use Rattle.rules.specs.declared.Answer.{Answer}
-use Rattle.rules.specs.declared.Cause.{Cause}
-use Rattle.plant.specs.Plant.{isKept, settingsOf, validPlant, plantOf, noPlant, installed}
+use Rattle.about_files.proofs.Causes.{numbered}
+use Rattle.plant.specs.Plant.{isKept, settingsOf, plantOf, noPlant, installed}
 use Rattle.plant.specs.declared.Installed.{Installed}
 use Rattle.plant.specs.declared.Plant.{Plant}
 use Rattle.plant.proofs.Laws.{accepted-keeps, accepted-values}
-use Rattle.unit.specs.Values.{isSound, freshUnit, installedUnit}
-use Rattle.unit.proofs.CallLaws.{sound-is}
+use Rattle.unit.specs.Values.{freshUnit, installedUnit}
 use Rattle.c_structs.specs.Held.{shutOf, newly}
 use Rattle.c_structs.proofs.Handing.{unit-back}
 use Rattle.about_calls_c.specs.Lists.{heldInstall}
 use Rattle.about_calls.specs.Theorem.{fresh}
 use Rattle.about_calls_c.specs.FromC.{EveryListFromC, InstalledFromC, UnsoundFromC, RefusedFromC}
-use Rattle.about_calls_c.proofs.Lists.{cause-refused, same-from-c}
+use Rattle.about_calls_c.proofs.Lists.{same-from-c}
 use Rattle.about_calls_c.proofs.Unsound.{all-refused}
 use Rattle.about_calls.proofs.EveryList.{every-list}
+use Rattle.about_calls.proofs.Installed.{none-sound}
 
 pub every-list-from-c : EveryListFromC
 every-list-from-c p valid store cs =
@@ -31,11 +30,6 @@ every-list-from-c p valid store cs =
     (same .0 ∙ held .0, same .1, held .1)
 
 -- ---- jag_install
-
-no-zero : (c : Cause) → numberOf c ≡ 0 → ⊥
-no-zero c e =
-    let both : accepted ≡ refused 0 = rw e at (cause-refused c accepted) in
-    let z : _≡_ {A = ℕ} 0 1 = cc in omega arith
 
 module _ (id mac : List ℕ) (set : Settings) where
   -- what it hands out is the fresh unit of the plant that was kept
@@ -49,7 +43,7 @@ module _ (id mac : List ℕ) (set : Settings) where
     where
       go : (a : Answer) → installing id mac set ≡ a → installing id mac set ≡ Answer.Accepted
       go Answer.Accepted e = e
-      go (Answer.Refused c) e = absurd (no-zero c (rw e at zero))
+      go (Answer.Refused c) e = let z : numberOf c ≡ 0 = rw e at zero in absurd (omega (arith, numbered c .0))
 
   refuses : (heldInstall id mac set .cause ≡ 0 → ⊥) → installed id mac set .plant ≡ noPlant
   unfolding newly installedUnit installed
@@ -71,19 +65,11 @@ installed-from-c id mac set zero store cs =
 pub unsound-from-c : UnsoundFromC
 unsound-from-c u bad store = all-refused u bad store
 
-no-plant : validPlant noPlant ≡ false
-unfolding validPlant plantId allAtMost checkDigit weightedSum macAddress allHex
-no-plant = refl
-
 none-kept : isKept (settingsOf (freshUnit noPlant .plant)) ≡ true
 unfolding freshUnit isKept
 none-kept = refl
 
-no-sound : isSound (freshUnit noPlant) ≡ false
-unfolding freshUnit
-no-sound = rw (sound-is (freshUnit noPlant), no-plant)
-
 pub refused-from-c : RefusedFromC
 refused-from-c id mac set other store =
     let unit : heldInstall id mac set .unit ≡ shutOf (freshUnit noPlant) = hands id mac set noPlant (refuses id mac set other) in
-    rw unit (unsound-from-c (shutOf (freshUnit noPlant)) (rw (unit-back (freshUnit noPlant) none-kept) no-sound) store)
+    rw unit (unsound-from-c (shutOf (freshUnit noPlant)) (rw (unit-back (freshUnit noPlant) none-kept) none-sound) store)
