@@ -9,17 +9,20 @@ use Rattle.calls.proofs.step.Statement.{statement}
 use Rattle.calls.proofs.step.Tie as tie
 
 -- what the call was given
+abbrev start : tie.After-slice-known → tie.Start
+start k = k .before .before .before
+
 abbrev unit : tie.After-slice-known → Unit
-unit k = k .before .before .before .args .unit
+unit k = start k .args .unit
 
 abbrev name : tie.After-slice-known → List ℕ
-name k = now (k .before .before .before .args .name)
+name k = now (start k .args .name)
 
 abbrev body : tie.After-slice-known → List ℕ
-body k = now (k .before .before .before .args .body)
+body k = now (start k .args .body)
 
 abbrev store : tie.After-slice-known → List ℕ
-store k = now (k .before .before .before .args .store)
+store k = now (start k .args .store)
 
 enum-known-call : tie.Need-enum-known-call
 enum-known-call c = search needs
@@ -97,37 +100,67 @@ same-length : tie.Need-same-length
 same-length c = search needs
 
 returns : tie.Need-returns
-returns c = let k = c .before .before .before .before .before .before in tick-step (unit k) (store k) (name k) (body k) _ _ _ (c .answered .ensures) _ (c .before .before .before .before .call .given .1) (c .before .tick .ensures)
+returns c =
+    let called = c .before in
+    let arm = called .before .before .before in
+    let k = arm .before .before in
+    tick-step (unit k) (store k) (name k) (body k) _ _ _ (c .answered .ensures) _ (arm .call .given .1) (called .tick .ensures)
 
 returns-2 : tie.Need-returns-2
-returns-2 c = let k = c .before .before .before .before in lost-step (unit k) (store k) (name k) (body k) _ _ _ (c .answered2 .ensures) (c .before .before .enum-told .given .1) (c .before .clock-lost .ensures)
+returns-2 c =
+    let called = c .before in
+    let arm = called .before in
+    let k = arm .before .before in
+    lost-step (unit k) (store k) (name k) (body k) _ _ _ (c .answered2 .ensures) (arm .enum-told .given .1) (called .clock-lost .ensures)
 
 same-length-2 : tie.Need-same-length-2
 same-length-2 c = search needs
 
 returns-3 : tie.Need-returns-3
 returns-3 c =
-    let f = c .before .before .before in
-    let k = f .before .before .before .before in
-    file-step (unit k) (store k) (name k) (body k) _ _ _ (c .answered3 .ensures) (f .before .before .enum-told2 .given .1) _ (f .take-file .ensures .0) (f .take-file .ensures .1)
+    let called = c .before .before .before in
+    let arm = called .before .before in
+    let k = arm .before .before in
+    let f = called .take-file .ensures in
+    file-step (unit k) (store k) (name k) (body k) _ _ _ (c .answered3 .ensures) (arm .enum-told2 .given .1) _ (f .0) (f .1)
 
 returns-4 : tie.Need-returns-4
-returns-4 c = let k = c .before .before .before .before .before in failure-step (unit k) (store k) (name k) (body k) _ _ _ (c .answered4 .ensures) _ _ (c .before .before .before .call2 .given .1) (c .before .failure .ensures)
+returns-4 c =
+    let called = c .before in
+    let arm = called .before .before in
+    let k = arm .before .before in
+    failure-step (unit k) (store k) (name k) (body k) _ _ _ (c .answered4 .ensures) _ _ (arm .call2 .given .1) (called .failure .ensures)
 
 returns-5 : tie.Need-returns-5
-returns-5 c = let k = c .before .before .before .before in due-step (unit k) (store k) (name k) (body k) _ _ _ (c .due-replied .ensures) (c .before .before .enum-told3 .given .1) (c .before .due .ensures)
+returns-5 c =
+    let called = c .before in
+    let arm = called .before in
+    let k = arm .before .before in
+    due-step (unit k) (store k) (name k) (body k) _ _ _ (c .due-replied .ensures) (arm .enum-told3 .given .1) (called .due .ensures)
 
 same-length-3 : tie.Need-same-length-3
 same-length-3 c = search needs
 
 returns-6 : tie.Need-returns-6
-returns-6 c = let k = c .before .before .before .before .before .before in ceiling-step (unit k) (store k) (name k) (body k) _ _ _ (c .ceiling-replied .ensures) _ (c .before .before .before .before .call3 .given .1) (c .before .ceiling .ensures)
+returns-6 c =
+    let called = c .before in
+    let arm = called .before .before .before in
+    let k = arm .before .before in
+    ceiling-step (unit k) (store k) (name k) (body k) _ _ _ (c .ceiling-replied .ensures) _ (arm .call3 .given .1) (called .ceiling .ensures)
 
 returns-7 : tie.Need-returns-7
-returns-7 c = let k = c .before .before .before .before in command-step (unit k) (store k) (name k) (body k) _ _ _ (c .command-replied .ensures) (c .before .before .enum-told4 .given .1) (c .before .command .ensures)
+returns-7 c =
+    let called = c .before in
+    let arm = called .before in
+    let k = arm .before .before in
+    command-step (unit k) (store k) (name k) (body k) _ _ _ (c .command-replied .ensures) (arm .enum-told4 .given .1) (called .command .ensures)
 
 returns-8 : tie.Need-returns-8
-returns-8 c = let k = c .before .before .before .before in free-step (unit k) (store k) (name k) (body k) _ _ _ (c .free-replied .ensures) (c .before .before .enum-told5 .given .1) (c .before .free-blocks .ensures)
+returns-8 c =
+    let called = c .before in
+    let arm = called .before in
+    let k = arm .before .before in
+    free-step (unit k) (store k) (name k) (body k) _ _ _ (c .free-replied .ensures) (arm .enum-told5 .given .1) (called .free-blocks .ensures)
 
 pub step-spec : {M : Type 1} → statement M
 step-spec =
