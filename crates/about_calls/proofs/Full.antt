@@ -75,8 +75,9 @@ module _ (u : Unit) (store name body : List ℕ) (t : ℕ) (f : File) where
       → takeOf u store name body .answer ≡ answerOf (cond (ltb blockCount (together u f)) (some Cause.Full) none)
   unfolding takeOf firstOf
   full-answer good long bytes clock read =
+      let full = full-is u good f (taken-good (u .plant .id) name body f read) in
       done-answer (firstOf (takeRows u store name body)) (taken (takeFile (u .plant .id) name body) store u) u
-      ∙ rw (eq-eqb (length store) storeLength long, good, bytes, ap isUnset clock, read, full-is u good f (taken-good (u .plant .id) name body f read), full-cause f u) refl
+      ∙ rw (eq-eqb (length store) storeLength long, good, bytes, ap isUnset clock, read, full, full-cause f u) refl
 
 full-test : (x : Bool) → answerOf (cond x (some Cause.Full) none) ≡ Answer.Refused Cause.Full → x ≡ true
 full-test true e = refl

@@ -68,8 +68,9 @@ module _ (id mac : List ℕ) (set : Settings) (e : installedUnit id mac set .ans
 
 pub every-list-installed : EveryListInstalled
 every-list-installed id mac set e store cs =
+    let w = toldBy id set store in
     subst
-    (λ (s : State). (replies cs s ≡ machineReplies (toldBy id set store) cs freshMachine) × Holds (after cs s) (machineAfter (toldBy id set store) cs freshMachine))
+    (λ (s : State). (replies cs s ≡ machineReplies w cs freshMachine) × Holds (after cs s) (machineAfter w cs freshMachine))
     (sym (state-of id mac set e store))
     (every-list (plantOf id mac set) (valid-of id mac set e) store cs)
 

@@ -65,8 +65,9 @@ module _ (u : Unit) (name body : List ℕ) where
       sym (first-before (takenRows (u .plant .id) name body) _ c (sym (take-first (u .plant .id) name body) ∙ ap causeOf e))
   outcome-first good (file x) e =
       let parsed = take-accepts (u .plant .id) name body x .0 e .1 in
+      let full = row Cause.Full (fullBreaks u (parseName name) body) in
       rw (
-        first-after (takenRows (u .plant .id) name body) (row Cause.Full (fullBreaks u (parseName name) body) ∷ []) (sym (take-first (u .plant .id) name body) ∙ ap causeOf e),
+        first-after (takenRows (u .plant .id) name body) (full ∷ []) (sym (take-first (u .plant .id) name body) ∙ ap causeOf e),
         full-row x parsed,
         full-is u good x (taken-good (u .plant .id) name body x e),
         full-cause x u,
@@ -126,7 +127,9 @@ step-refuses (fileTaken name body) s k e =
     (storeBy o (storeWith (takeFile (s .unit .plant .id) name body) (s .store) (s .unit)) (s .store))) e
 step-refuses (failure kind status) s k e = ap (λ (o : Option Cause). stepDone (doneBy o (withFailure kind status (s .unit)) (s .unit)) (s .store)) e
 step-refuses due s k e =
-    ap (λ (o : Option Cause). (ofDue (dueBy o (dueFor (settingsOf (s .unit .plant)) (lastDigit (s .unit .plant .id)) (clockTime (s .unit .clock)) (requestsOf (s .unit .requests)))), s)) e
+    let u = s .unit in
+    let due = dueFor (settingsOf (u .plant)) (lastDigit (u .plant .id)) (clockTime (u .clock)) (requestsOf (u .requests)) in
+    ap (λ (o : Option Cause). (ofDue (dueBy o due), s)) e
 step-refuses (ceilingOf slot) s k e =
     ap (λ (o : Option Cause).
     (ofCeiling (ceilingBy o (ceilingAnswer (settingsOf (s .unit .plant)) (storedRate (s .unit .pool) (s .store) slot))), s)) e
@@ -155,9 +158,12 @@ step-answers (tick t) s e = ap (λ (o : Option Cause). isRefused (stepDone (done
 step-answers clockLost s e = ap (λ (o : Option Cause). isRefused (stepDone (doneBy o (lost (s .unit)) (s .unit)) (s .store) .0)) e
 step-answers (fileTaken name body) s e =
     ap (λ (o : Option Cause). isRefused (stepDone (doneBy o (taken (takeFile (s .unit .plant .id) name body) (s .store) (s .unit)) (s .unit)) (s .store) .0)) e
-step-answers (failure kind status) s e = ap (λ (o : Option Cause). isRefused (stepDone (doneBy o (withFailure kind status (s .unit)) (s .unit)) (s .store) .0)) e
+step-answers (failure kind status) s e =
+    ap (λ (o : Option Cause). isRefused (stepDone (doneBy o (withFailure kind status (s .unit)) (s .unit)) (s .store) .0)) e
 step-answers due s e =
-    ap (λ (o : Option Cause). isRefused (ofDue (dueBy o (dueFor (settingsOf (s .unit .plant)) (lastDigit (s .unit .plant .id)) (clockTime (s .unit .clock)) (requestsOf (s .unit .requests)))))) e
+    let u = s .unit in
+    let due = dueFor (settingsOf (u .plant)) (lastDigit (u .plant .id)) (clockTime (u .clock)) (requestsOf (u .requests)) in
+    ap (λ (o : Option Cause). isRefused (ofDue (dueBy o due))) e
     ∙ due-answers _ _ _ _
 step-answers (ceilingOf slot) s e =
     ap (λ (o : Option Cause). isRefused (ofCeiling (ceilingBy o (ceilingAnswer (settingsOf (s .unit .plant)) (storedRate (s .unit .pool) (s .store) slot))))) e
@@ -207,8 +213,9 @@ take-answer u store name body =
 
 pub file-refuses : FileRefuses
 file-refuses u store name body k =
+    let rise = rows-rise (fileTaken name body) (record { unit = u; store = store }) in
     rw (take-answer u store name body)
-    (answer-refuses Answer.Refused Answer.Accepted causeIn (λ c. refl) refl (fileRows u store name body) (rows-rise (fileTaken name body) (record { unit = u; store = store })) k)
+    (answer-refuses Answer.Refused Answer.Accepted causeIn (λ c. refl) refl (fileRows u store name body) rise k)
 
 pub file-accepts : FileAccepts
 file-accepts u store name body =

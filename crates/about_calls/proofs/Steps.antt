@@ -127,8 +127,10 @@ module _ (p : Plant) (valid : validPlant p ≡ true) (n : ℕ) where
         go Unset e =
             sim-by p n _ _ _ _ (ap (λ (a : Due). (ofDue a, s)) (due-unset u good e)) (machine.due-unset w M (clock-none e)) (refl, h)
         go (At t) e =
+            let d = lastDigit (p .id) in
+            let same = ap₂ (λ (r : Plant) q. Rattle.rules.specs.Machine.dueOf (settingsOf r) d t q) (h .plant) (h .requests) in
             sim-by p n _ _ _ _
-            (ap (λ (r : Reply). (r, s)) (ap ofDue (due-done u good t e (lastDigit (p .id)) digit-same) ∙ due-as-machine _ _ t _ ∙ ap₂ (λ (r : Plant) q. Rattle.rules.specs.Machine.dueOf (settingsOf r) (lastDigit (p .id)) t q) (h .plant) (h .requests)))
+            (ap (λ (r : Reply). (r, s)) (ap ofDue (due-done u good t e d digit-same) ∙ due-as-machine _ _ t _ ∙ same))
             (machine.due-set w M t (clock-some t e)) (refl, h)
 
     -- ---- failure reported
@@ -145,21 +147,24 @@ module _ (p : Plant) (valid : validPlant p ≡ true) (n : ℕ) where
         command = u .command;
       }
 
-      reported-follows : (t : ℕ) → u .clock ≡ At t
-          → Follows p n (record { unit = reported t; store = s .store }) (withRequests (failed (settingsOf p) (lastDigit (p .id)) kind t status (M .requests)) M)
+      reported-follows : (t : ℕ) → u .clock ≡ At t → let asked = failed (settingsOf p) (lastDigit (p .id)) kind t status (M .requests) in
+          Follows p n (record { unit = reported t; store = s .store }) (withRequests asked M)
       unfolding withRequests
-      reported-follows t e = record {
-        plant = h .plant;
-        size = h .size;
-        clock = sym (clock-some t e);
-        floor = h .floor;
-        requests = ap₂ (λ (r : Plant) q. failed (settingsOf r) (lastDigit (p .id)) kind t status q) (h .plant) (h .requests);
-        command = h .command;
-        time = h .time;
-        asks = facts-asks _ _ (failed-asks _ (valid-facts p valid .settings) t (time-below t e) (M .requests) (asks-facts _ (M .requests) (h .asks)) (lastDigit (p .id)) kind status);
-        most = h .most;
-        kept = kept-same s _ M _ refl refl refl refl (λ z. z) (h .kept);
-      }
+      reported-follows t e =
+          let d = lastDigit (p .id) in
+          let asked = failed-asks _ (valid-facts p valid .settings) t (time-below t e) (M .requests) in
+          record {
+            plant = h .plant;
+            size = h .size;
+            clock = sym (clock-some t e);
+            floor = h .floor;
+            requests = ap₂ (λ (r : Plant) q. failed (settingsOf r) d kind t status q) (h .plant) (h .requests);
+            command = h .command;
+            time = h .time;
+            asks = facts-asks _ _ (asked (asks-facts _ (M .requests) (h .asks)) d kind status);
+            most = h .most;
+            kept = kept-same s _ M _ refl refl refl refl (λ z. z) (h .kept);
+          }
 
       pub failure-step : Sim p n (step (failure kind status) s) (machineStep w (failure kind status) M)
       unfolding step
@@ -167,9 +172,11 @@ module _ (p : Plant) (valid : validPlant p ≡ true) (n : ℕ) where
         where
           go : (c : Clock) → u .clock ≡ c → (b : Bool) → isStatus status ≡ b → Sim p n (step (failure kind status) s) (machineStep w (failure kind status) M)
           go Unset e b f =
-              sim-by p n _ _ _ _ (ap (λ (d : Done). stepDone d (s .store)) (failure-unset u good kind status e)) (machine.failure-unset w M kind status (clock-none e)) (refl, h)
+              sim-by p n _ _ _ _ (ap (λ (d : Done). stepDone d (s .store)) (failure-unset u good kind status e))
+              (machine.failure-unset w M kind status (clock-none e)) (refl, h)
           go (At t) e false f =
-              sim-by p n _ _ _ _ (ap (λ (d : Done). stepDone d (s .store)) (failure-status u good t e kind status f)) (machine.failure-status w M kind status t (clock-some t e) f) (refl, h)
+              sim-by p n _ _ _ _ (ap (λ (d : Done). stepDone d (s .store)) (failure-status u good t e kind status f))
+              (machine.failure-status w M kind status t (clock-some t e) f) (refl, h)
           go (At t) e true f =
               sim-by p n _ _ _ _
               (ap (λ (d : Done). stepDone d (s .store)) (failure-done u good t e kind status f (lastDigit (p .id)) digit-same (reported t .requests) refl))
@@ -220,7 +227,8 @@ module _ (p : Plant) (valid : validPlant p ≡ true) (n : ℕ) where
     pub ceiling-step : (slot : ℕ) → Sim p n (step (ceilingOf slot) s) (machineStep w (ceilingOf slot) M)
     ceiling-step slot = go (eqb n storeLength) refl
       where
-        in-range : (l : n ≡ storeLength) (t : ℕ) → u .clock ≡ At t → (b : Bool) → ltb slot slotCount ≡ b → Sim p n (step (ceilingOf slot) s) (machineStep w (ceilingOf slot) M)
+        in-range : (l : n ≡ storeLength) (t : ℕ) → u .clock ≡ At t → (b : Bool) → ltb slot slotCount ≡ b
+            → Sim p n (step (ceilingOf slot) s) (machineStep w (ceilingOf slot) M)
         in-range l t c false e =
             sim-by p n _ _ _ _ (unit.ceiling-range s (full l) good (bytes l) (ap isUnset c) slot e)
             (machine.ceiling-range w M slot (eq-eqb n storeLength l) t (clock-some t c) e) (refl, h)
@@ -231,7 +239,8 @@ module _ (p : Plant) (valid : validPlant p ≡ true) (n : ℕ) where
 
         by-clock : (l : n ≡ storeLength) (c : Clock) → u .clock ≡ c → Sim p n (step (ceilingOf slot) s) (machineStep w (ceilingOf slot) M)
         by-clock l Unset c =
-            sim-by p n _ _ _ _ (unit.ceiling-unset s (full l) good (bytes l) (ap isUnset c) slot) (machine.ceiling-unset w M slot (eq-eqb n storeLength l) (clock-none c)) (refl, h)
+            sim-by p n _ _ _ _ (unit.ceiling-unset s (full l) good (bytes l) (ap isUnset c) slot)
+            (machine.ceiling-unset w M slot (eq-eqb n storeLength l) (clock-none c)) (refl, h)
         by-clock l (At t) c = in-range l t c (ltb slot slotCount) refl
 
         go : (b : Bool) → eqb n storeLength ≡ b → Sim p n (step (ceilingOf slot) s) (machineStep w (ceilingOf slot) M)

@@ -103,6 +103,7 @@ module _ (p : Plant) (valid : validPlant p ≡ true) (n : ℕ) (s : State) (M : 
     unfolding withFile machineWith
     taken-follows few =
         let a = taken-agrees few in
+        let asked = file-asks _ t (time-below p valid n s M h t set) body f (M .requests) (taken (p .id) name body f read) in
         record {
           plant = h .plant;
           size = a .full ∙ sym l;
@@ -111,7 +112,7 @@ module _ (p : Plant) (valid : validPlant p ≡ true) (n : ℕ) (s : State) (M : 
           requests = ap₂ (λ c q. takeBy c (f .name .format) (f .name) (recordsIn (f .body)) q) (ap clockTime set) (h .requests);
           command = h .command;
           time = h .time;
-          asks = facts-asks _ _ (file-asks _ t (time-below p valid n s M h t set) body f (M .requests) (taken (p .id) name body f read) (asks-facts _ (M .requests) (h .asks)));
+          asks = facts-asks _ _ (asked (asks-facts _ (M .requests) (h .asks)));
           most = h .most;
           kept = agrees (a .full) a;
         }
@@ -126,24 +127,31 @@ module _ (p : Plant) (valid : validPlant p ≡ true) (n : ℕ) (s : State) (M : 
       T : Type 0
       T = Sim p n (step (fileTaken name body) s) (machineStep (w p valid n) (fileTaken name body) M)
 
+      -- the unit's plant is the machine's, and reads the same
+      reads : (o : Outcome) → takeFile (p .id) name body ≡ o → takeFile (u .plant .id) name body ≡ o
+      reads o e = ap (λ (q : Plant). takeFile (q .id) name body) (h .plant) ∙ e
+
       by-room : (l : n ≡ storeLength) (t : ℕ) → u .clock ≡ At t → (f : File) → takeFile (p .id) name body ≡ file f
           → (b : Bool) → leb (heldCount (machineWith t f M)) blockCount ≡ b → T
       by-room l t c f e false g =
           sim-by p n _ _ _ _
-          (unit.take-full s (full p valid n s M h l) (good p valid n s M h) (bytes p valid n s M h l) (ap isUnset c) name body f (ap (λ (q : Plant). takeFile (q .id) name body) (h .plant) ∙ e) (full-same l t c f e ∙ ap not g)
+          (unit.take-full s (full p valid n s M h l) (good p valid n s M h) (bytes p valid n s M h l) (ap isUnset c) name body f
+          (reads (file f) e) (full-same l t c f e ∙ ap not g)
           ∙ ap (λ x. unit.refusal x s) (full-cause f))
           (machine.take-full (w p valid n) M name body (eq-eqb n storeLength l) t (clock-some p valid n s M h t c) f e g)
           (refl, h)
       by-room l t c f e true g =
           sim-by p n _ _ _ _
-          (unit.take-done s (full p valid n s M h l) (good p valid n s M h) (bytes p valid n s M h l) (ap isUnset c) name body f (ap (λ (q : Plant). takeFile (q .id) name body) (h .plant) ∙ e) (full-same l t c f e ∙ ap not g))
+          (unit.take-done s (full p valid n s M h l) (good p valid n s M h) (bytes p valid n s M h l) (ap isUnset c) name body f
+          (reads (file f) e) (full-same l t c f e ∙ ap not g))
           (machine.take-done (w p valid n) M name body (eq-eqb n storeLength l) t (clock-some p valid n s M h t c) f e g)
           (refl, taken-follows l t c f e (leb-true (heldCount (machineWith t f M)) blockCount g))
 
       by-outcome : (l : n ≡ storeLength) (t : ℕ) → u .clock ≡ At t → (o : Outcome) → takeFile (p .id) name body ≡ o → T
       by-outcome l t c (refuse x) e =
           sim-by p n _ _ _ _
-          (unit.take-refused s (full p valid n s M h l) (good p valid n s M h) (bytes p valid n s M h l) (ap isUnset c) name body x (ap (λ (q : Plant). takeFile (q .id) name body) (h .plant) ∙ e))
+          (unit.take-refused s (full p valid n s M h l) (good p valid n s M h) (bytes p valid n s M h l) (ap isUnset c) name body x
+          (reads (refuse x) e))
           (machine.take-refused (w p valid n) M name body (eq-eqb n storeLength l) t (clock-some p valid n s M h t c) x e)
           (refl, h)
       by-outcome l t c (file f) e = by-room l t c f e (leb (heldCount (machineWith t f M)) blockCount) refl
@@ -157,4 +165,5 @@ module _ (p : Plant) (valid : validPlant p ≡ true) (n : ℕ) (s : State) (M : 
       go : (b : Bool) → eqb n storeLength ≡ b → T
       go true e = by-clock (test-same n storeLength e) (u .clock) refl
       go false e =
-          sim-by p n _ _ _ _ (unit.take-length s (short p valid n s M h (test-other n storeLength e)) name body) (machine.take-length (w p valid n) M name body e) (refl, h)
+          sim-by p n _ _ _ _ (unit.take-length s (short p valid n s M h (test-other n storeLength e)) name body)
+          (machine.take-length (w p valid n) M name body e) (refl, h)

@@ -94,8 +94,10 @@ module _ (p : Plant) (n : ℕ) (full : n ≡ storeLength) where
       let N : Machine = machineSet t M in
       let g : Follows p n v N = set-follows s M t l h in
       let a : Agrees (stored v) N = agree-of v N (g .size ∙ full) (g .kept) in
-      let rate : storedRate (v .unit .pool) (s .store) (slotOf t) ≡ rateOf N (slotOf t) = rate-agrees (stored v) N a (slotOf t) (slot-below t l) in
-      let move : approach (target (settingsOf (s .unit .plant)) (storedRate (v .unit .pool) (s .store) (slotOf t))) (s .unit .command) ≡ approach (target (settingsOf p) (rateOf N (slotOf t))) (N .command) =
+      let own : Option ℕ = storedRate (v .unit .pool) (s .store) (slotOf t) in
+      let rate : own ≡ rateOf N (slotOf t) = rate-agrees (stored v) N a (slotOf t) (slot-below t l) in
+      let move : approach (target (settingsOf (s .unit .plant)) own) (s .unit .command)
+      ≡ approach (target (settingsOf p) (rateOf N (slotOf t))) (N .command) =
       ap₂ approach (ap₂ (λ (q : Plant) (o : Option ℕ). target (settingsOf q) o) (h .plant) rate) (same-command s M t h) in
       record {
         plant = g .plant;

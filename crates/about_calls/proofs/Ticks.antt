@@ -43,7 +43,8 @@ same-after-ticks u store c n set least answer =
 release-none : (p : Pool) (floor : ℕ) → p .free < 2 ^ blockCount → Sound p floor → releaseOf p floor ≡ p
 unfolding releaseOf
 release-none p floor few s =
-    λ i. record { months = p .months; free = (sum-same (λ b. 2 ^ b) blockCount (freeAfter p floor) (bit (p .free)) each ∙ number-bits blockCount (p .free) few) i }
+    let same = sum-same (λ b. 2 ^ b) blockCount (freeAfter p floor) (bit (p .free)) each ∙ number-bits blockCount (p .free) few in
+    λ i. record { months = p .months; free = same i }
   where
     each : (b : ℕ) → b < blockCount → freeAfter p floor b ≡ bit (p .free) b
     each b l = go (isFree p b) refl
@@ -52,7 +53,8 @@ release-none p floor few s =
         go true e = refl
         go false e = le-ltb (blockMonth p b) floor (s .low (blockMonth p b) b (record { below = l; used = e; month = refl }))
 
-set-same : (u : Unit) (c : ℕ) → u .clock ≡ At c → raisedFloor (u .floor) c ≡ u .floor → releaseOf (u .pool) (raisedFloor (u .floor) c) ≡ u .pool → setClock c u ≡ u
+set-same : (u : Unit) (c : ℕ) → u .clock ≡ At c → raisedFloor (u .floor) c ≡ u .floor
+    → releaseOf (u .pool) (raisedFloor (u .floor) c) ≡ u .pool → setClock c u ≡ u
 unfolding setClock
 set-same u c e f g =
     λ i. record { plant = u .plant; pool = g i; requests = u .requests; clock = sym e i; floor = f i; command = u .command }

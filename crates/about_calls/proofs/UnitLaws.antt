@@ -41,7 +41,8 @@ module _ (s : State) where
     unfolding step takeOf storeAfterTake firstOf
     take-length name body = rw short
 
-  module _ (full : eqb (length (s .store)) storeLength ≡ true) (good : isSound (s .unit) ≡ true) (bytes : soundStore (heldOf (s .unit .pool)) (s .store) ≡ true) where
+  module _ (full : eqb (length (s .store)) storeLength ≡ true) (good : isSound (s .unit) ≡ true)
+      (bytes : soundStore (heldOf (s .unit .pool)) (s .store) ≡ true) where
     -- ---- tick
 
     pub tick-range : (t : ℕ) → ltb t endOfTime ≡ false → step (tick t) s ≡ refusal Cause.Range s
