@@ -37,7 +37,8 @@ record Standing (f : Format) (body : List ℕ) (b : Body) : Type 0 where
 standing : (f : Format) (body : List ℕ) (b : Body) → isSchedule f ≡ true → parseBody f body ≡ some b → Standing f body b
 standing f body b i e = go (counted f body) refl (shaped f (countOf f) (drop 6 body)) refl (sym (parse-is f body i) ∙ e)
   where
-    here : counted f body ≡ true → shaped f (countOf f) (drop 6 body) ≡ true → (rs : List Record) → rs ≡ recordsFrom f (countOf f) (drop 6 body) → Standing f body (schedule rs)
+    here : counted f body ≡ true → shaped f (countOf f) (drop 6 body) ≡ true
+        → (rs : List Record) → rs ≡ recordsFrom f (countOf f) (drop 6 body) → Standing f body (schedule rs)
     here c t rs e =
         let k : length rs ≡ countOf f = ap (λ (x : List Record). length x) e ∙ records-count f (countOf f) (drop 6 body) in
         record {
@@ -93,7 +94,9 @@ module _ (plant name body : List ℕ) (f : File) (read : takeFile plant name bod
     unfolding summaryOf
     following = record {
       form = rw (e, part-rest body 6) (stands .form);
-      run = subst (λ (rs : List Record). RunFrom (x .start) rs) (sym records-are) (subst (λ (k : ℕ). RunFrom k (recordsIn (f .body))) (sym start-is) (taken-good plant name body f read));
+      run =
+          subst (λ (rs : List Record). RunFrom (x .start) rs) (sym records-are)
+          (subst (λ (k : ℕ). RunFrom k (recordsIn (f .body))) (sym start-is) (taken-good plant name body f read));
     }
 
     pub requests-are : (t : ℕ) (q : RequestValues) → takeSummary t (x .format) x q ≡ takeBy t (f .name .format) (f .name) (recordsIn (f .body)) q

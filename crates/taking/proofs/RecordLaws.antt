@@ -22,7 +22,9 @@ module _ (f : Format) (t : List ℕ) (left slot : ℕ) (g : Following f left slo
   whole-here = whole-first f t left h (g .form)
 
   -- the first record, as a run
-  first-run : (startOf (recordAt f t) ≡ slot) × GoodRecord (recordAt f t) × RunFrom (slot + length (recordAt f t .rates)) (recordsFrom f (left - 1) (take (length t - sizeOf f t) (drop (sizeOf f t) t)))
+  first-run : (startOf (recordAt f t) ≡ slot)
+      × GoodRecord (recordAt f t)
+      × RunFrom (slot + length (recordAt f t .rates)) (recordsFrom f (left - 1) (take (length t - sizeOf f t) (drop (sizeOf f t) t)))
   first-run = subst (λ (rs : List Record). RunFrom slot rs) (records-step f t left h refl) (g .run)
 
   rates-count : length (recordAt f t .rates) ≡ ratesOf t
@@ -41,11 +43,12 @@ module _ (f : Format) (t : List ℕ) (left slot : ℕ) (g : Following f left slo
   pub next-following : (n z : ℕ) → n ≡ ratesOf t → z ≡ sizeOf f t → Following f (left - 1) (slot + n) (take (length t - z) (drop z t))
   next-following n z n≡ z≡ =
       let e : slot + length (recordAt f t .rates) ≡ slot + n = ap (λ (k : ℕ). slot + k) (rates-count ∙ sym n≡) in
+      let after : ℕ → List Record = λ (k : ℕ). recordsFrom f (left - 1) (take (length t - k) (drop k t)) in
       record {
         form = shaped-rest f t left h z≡ (g .form);
         run =
-            subst (λ (k : ℕ). RunFrom k (recordsFrom f (left - 1) (take (length t - z) (drop z t)))) e
-            (subst (λ (k : ℕ). RunFrom (slot + length (recordAt f t .rates)) (recordsFrom f (left - 1) (take (length t - k) (drop k t)))) (sym z≡) (first-run .2));
+            subst (λ (k : ℕ). RunFrom k (after z)) e
+            (subst (λ (k : ℕ). RunFrom (slot + length (recordAt f t .rates)) (after k)) (sym z≡) (first-run .2));
       }
 
   -- and the whole is what they leave after the record was put

@@ -62,7 +62,8 @@ module _ (u : Unit) (store name body : List ℕ) where
             rw (eq-eqb (length store) storeLength long, lent-row u store true long good, ap isUnset set, e) (refl, refl)
 
         module _ (f : File) (e : takeFile (u .plant .id) name body ≡ file f) where
-          full-row : (b : Bool) → ltb (freeCount (u .pool)) (missing (u .pool) (u .floor) (runStart (recordsIn (f .body))) (runLength (recordsIn (f .body)))) ≡ b → fullRow f u .applies ≡ b
+          full-row : (b : Bool) → let rs = recordsIn (f .body) in
+              ltb (freeCount (u .pool)) (missing (u .pool) (u .floor) (runStart rs) (runLength rs)) ≡ b → fullRow f u .applies ≡ b
           unfolding fullRow
           full-row b h = h
 
@@ -101,7 +102,8 @@ module _ (u : Unit) (store name body : List ℕ) where
             take-full h = none-left (read .the-file) (read .is) (room true (lt-ltb free needed h))
 
             pub take-done : needed ≤ free → (p : Pool) (after : List ℕ) (q : Requests)
-                → storedOf p after ≡ putRecords (u .floor) (recordsFrom (x .format) (x .records) (take (length body - 6) (drop 6 body))) (storedOf (u .pool) store)
+                → storedOf p after
+                ≡ putRecords (u .floor) (recordsFrom (x .format) (x .records) (take (length body - 6) (drop 6 body))) (storedOf (u .pool) store)
                 → requestsOf q ≡ takeSummary t (x .format) x (requestsOf (u .requests))
                 → Takes (filed u p q) after
             take-done h p after q k m =

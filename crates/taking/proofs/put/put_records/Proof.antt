@@ -27,8 +27,11 @@ abbrev μ-loop : tie.MeasureT-loop
 loop-holds : tie.Need-loop-holds Inv-loop μ-loop
 loop-holds c = (c .before .before .pre, refl, refl)
 
+abbrev start : tie.In-loop Inv-loop μ-loop → tie.Start Inv-loop μ-loop
+start c = c .before .before .before .before
+
 -- the record at the front of what is left
-whole : (c : tie.In-loop Inv-loop μ-loop) → Whole (c .before .before .before .before .args .format) (now (c .before .loop .t))
+whole : (c : tie.In-loop Inv-loop μ-loop) → Whole (start c .args .format) (now (c .before .loop .t))
 whole c = whole-here _ _ _ _ (c .before .loop .inv .0) (c .loop-test .taken)
 
 rate-count-requires : tie.Need-rate-count-requires Inv-loop μ-loop
@@ -66,41 +69,48 @@ add-slot c =
 tail-digits-requires : tie.Need-tail-digits-requires Inv-loop μ-loop
 tail-digits-requires c κs = tt
 
+-- when the record's tail is known, its rates were counted, after the loop's test
+abbrev counted : tie.After-tail-digits Inv-loop μ-loop → tie.After-rate-count Inv-loop μ-loop
+counted c = c .before .before .before .before .before .before
+
+abbrev inside : tie.After-tail-digits Inv-loop μ-loop → tie.In-loop Inv-loop μ-loop
+inside c = counted c .before
+
 add-next : tie.Need-add-next Inv-loop μ-loop
-add-next c = omega (arith, c .before .before .before .before .before .before .rate-count .ensures .1, c .tail-digits .ensures .1)
+add-next c = omega (arith, counted c .rate-count .ensures .1, c .tail-digits .ensures .1)
 
 -- where the next record begins
-size : (c : tie.After-tail-digits Inv-loop μ-loop) → 53 + c .before .before .before .before .before .before .rate-count .result + c .tail-digits .result ≡ sizeOf (c .before .before .before .before .before .before .before .before .before .before .before .args .format) (now (c .before .before .before .before .before .before .before .before .loop .t))
-size c =
-    let k = c .before .before .before .before .before .before in
-    size-here _ _ (k .rate-count .ensures .0) (c .tail-digits .ensures .0) (whole (k .before))
+size : (c : tie.After-tail-digits Inv-loop μ-loop) → let i = inside c in
+    53 + counted c .rate-count .result + c .tail-digits .result ≡ sizeOf (start i .args .format) (now (i .before .loop .t))
+size c = size-here _ _ (counted c .rate-count .ensures .0) (c .tail-digits .ensures .0) (whole (inside c))
 
 sub-t : tie.Need-sub-t Inv-loop μ-loop
-sub-t c = within _ _ (whole (c .before .before .before .before .before .before .before)) (size c)
+sub-t c = within _ _ (whole (inside c)) (size c)
 
 part-t-start : tie.Need-part-t-start Inv-loop μ-loop
-part-t-start c = within _ _ (whole (c .before .before .before .before .before .before .before)) (size c)
+part-t-start c = within _ _ (whole (inside c)) (size c)
 
 part-t-end : tie.Need-part-t-end Inv-loop μ-loop
 part-t-end c = search needs
 
 sub-left : tie.Need-sub-left Inv-loop μ-loop
-sub-left c = c .before .before .before .before .before .before .before .before .loop-test .taken
+sub-left c = inside (c .before) .loop-test .taken
 
 loop-less : tie.Need-loop-less Inv-loop μ-loop
-loop-less c = let h = c .before .before .before .before .before .before .before .before .loop-test .taken in omega arith
+loop-less c = let h = inside (c .before) .loop-test .taken in omega arith
 
 loop-again : tie.Need-loop-again Inv-loop μ-loop
 loop-again c =
     let d = c .before in
-    let k = d .before .before .before .before .before .before in
-    let i = k .before in
-    let l = i .before .loop in
-    let p = d .before .before .before .put-run in (
-      next-following _ _ _ _ (l .inv .0) (i .loop-test .taken) _ _ (rates k) (size d),
+    let more = inside d .loop-test .taken in
+    let l = inside d .before .loop in
+    let p = d .before .before .before .put-run in
+    let held = storedOf (l .pool) (l .store) in
+    let put = storedOf (p .result) (p .last .1 .1 .1 .1 .0) in
+    let n = rates (counted d) in (
+      next-following _ _ _ _ (l .inv .0) more _ _ n (size d),
       p .kept .1 .1 .1 .1 .0 ∙ l .inv .1,
-      l .inv .2
-          ∙ put-next _ _ _ _ (l .inv .0) (i .loop-test .taken) _ _ _ (storedOf (l .pool) (l .store)) (storedOf (p .result) (p .last .1 .1 .1 .1 .0)) (rates k) (size d) (p .ensures .0) (p .ensures .1),
+      l .inv .2 ∙ put-next _ _ _ _ (l .inv .0) more _ _ _ held put n (size d) (p .ensures .0) (p .ensures .1),
     )
 
 same-length : tie.Need-same-length Inv-loop μ-loop

@@ -29,18 +29,23 @@ sound-requires c κs = search needs
 store-holds-requires : tie.Need-store-holds-requires
 store-holds-requires c κs = search needs
 
--- unit and store at entry
+-- the state before the tests, where the store has its length
+abbrev full-length : tie.After-store-holds → tie.Else1
+full-length c = c .before .before .before .before .before .before
+
 abbrev start : tie.After-store-holds → tie.Start
-start c = c .before .before .before .before .before .before .before .before .before .before
+start c = full-length c .before .before .before .before
 
 -- what the code tests
-tested : (c : tie.After-store-holds) → (c .before .before .sound .result && c .store-holds .result) ≡ (isSound (start c .args .unit) && storeHolds (start c .args .unit .pool) (now (start c .args .store)))
+tested : (c : tie.After-store-holds) → let a = start c .args in
+    (c .before .before .sound .result && c .store-holds .result) ≡ (isSound (a .unit) && storeHolds (a .unit .pool) (now (a .store)))
 tested c = ap₂ _&&_ (c .before .before .sound .ensures) (c .store-holds .ensures)
 
 long : (c : tie.After-store-holds) → length (now (start c .args .store)) ≡ storeLength
-long c = c .before .before .before .before .before .before .if1 .left
+long c = full-length c .if1 .left
 
-good : (c : tie.Else2) → (isSound (start (c .before) .args .unit) && storeHolds (start (c .before) .args .unit .pool) (now (start (c .before) .args .store))) ≡ true
+-- the unit and the store are sound
+good : (c : tie.Else2) → let a = start (c .before) .args in (isSound (a .unit) && storeHolds (a .unit .pool) (now (a .store))) ≡ true
 good c = sym (tested (c .before)) ∙ not-false _ (c .if2 .left)
 
 refuse-requires-2 : tie.Need-refuse-requires-2
@@ -88,14 +93,19 @@ refuse-requires-4 c κs = search needs
 enum-known-summary : tie.Need-enum-known-summary
 enum-known-summary c = search needs
 
+-- the states before a file was read: the clock is set, and unit and store are sound
+abbrev at-clock : tie.After-read-to-take → tie.After-clock
+at-clock c = c .before .before .before .before
+
+abbrev at-sound : tie.After-read-to-take → tie.Else2
+at-sound c = at-clock c .before .before
+
 -- what was read
 abbrev at-read : tie.After-summary → tie.After-read-to-take
 at-read c = c .before .before
 
-abbrev entry : tie.After-read-to-take → tie.Start
-entry c = start (c .before .before .before .before .before .before .before)
-
-got : (c : tie.After-summary) → readingOf (takeFile (entry (at-read c) .args .unit .plant .id) (now (entry (at-read c) .args .name)) (now (entry (at-read c) .args .body))) ≡ Read (c .summary .given .0 .0)
+got : (c : tie.After-summary) → let a = start (at-sound (at-read c) .before) .args in
+    readingOf (takeFile (a .unit .plant .id) (now (a .name)) (now (a .body))) ≡ Read (c .summary .given .0 .0)
 got c = sym (at-read c .read-to-take .ensures) ∙ c .summary .given .1
 
 missing-requires : tie.Need-missing-requires
@@ -112,11 +122,14 @@ same-length-3 c = search needs
 
 returns-4 : tie.Need-returns-4
 returns-4 c =
-    let n = c .before .before .before in
-    let s = n .before .before in
-    let k = at-read s .before .before .before .before in
-    let e = k .before .before in
-    let r = take-full _ _ _ _ (long (e .before)) (good e) _ (k .clock .given .1) _ (got s) _ _ (c .before .before .free-count .ensures) (n .missing .ensures) (c .before .if3 .taken) in
+    let counted = c .before .before in
+    let asked = counted .before in
+    let s = asked .before .before in
+    let e = at-sound (at-read s) in
+    let set = at-clock (at-read s) .clock .given .1 in
+    let free = counted .free-count .ensures in
+    let needed = asked .missing .ensures in
+    let r = take-full _ _ _ _ (long (e .before)) (good e) _ set _ (got s) _ _ free needed (c .before .if3 .taken) in
     (c .refuse5 .ensures ∙ r .0, r .1)
 
 sub-put-records : tie.Need-sub-put-records
@@ -142,11 +155,11 @@ same-length-4 c = search needs
 
 returns-5 : tie.Need-returns-5
 returns-5 c =
-    let a = c .before .before in
-    let b = a .before .before in
-    let k = b .before .before .before .before in
-    let e = k .before .before in
-    let r = take-refused _ _ _ _ (long (e .before)) (good e) _ (k .clock .given .1) _ (sym (b .read-to-take .ensures) ∙ a .cause .given .1) in
+    let arm = c .before .before in
+    let read = arm .before .before in
+    let e = at-sound read in
+    let set = at-clock read .clock .given .1 in
+    let r = take-refused _ _ _ _ (long (e .before)) (good e) _ set _ (sym (read .read-to-take .ensures) ∙ arm .cause .given .1) in
     (c .refuse4 .ensures ∙ r .0, r .1)
 
 same-length-5 : tie.Need-same-length-5
@@ -154,14 +167,18 @@ same-length-5 c = search needs
 
 returns-6 : tie.Need-returns-6
 returns-6 c =
-    let p = c .before .before .before .before in
-    let d = p .before .before .before in
-    let f = d .before in
-    let n = f .before in
-    let s = n .before .before in
-    let k = at-read s .before .before .before .before in
-    let e = k .before .before in
-    let r = take-done _ _ _ _ (long (e .before)) (good e) _ (k .clock .given .1) _ (got s) _ _ (f .free-count .ensures) (n .missing .ensures) (d .if3 .left) _ _ _ (p .put-records .ensures) (c .before .take-requests .ensures) in
+    let put = c .before .before .before .before in
+    let room = put .before .before .before in
+    let counted = room .before in
+    let asked = counted .before in
+    let s = asked .before .before in
+    let e = at-sound (at-read s) in
+    let set = at-clock (at-read s) .clock .given .1 in
+    let free = counted .free-count .ensures in
+    let needed = asked .missing .ensures in
+    let requests = c .before .take-requests .ensures in
+    let records = put .put-records .ensures in
+    let r = take-done _ _ _ _ (long (e .before)) (good e) _ set _ (got s) _ _ free needed (room .if3 .left) _ _ _ records requests in
     (c .filed .ensures ∙ r .0, r .1)
 
 pub take-file-spec : {M : Type 1} → statement M
