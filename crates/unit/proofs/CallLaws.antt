@@ -40,7 +40,8 @@ unfolding isSound valuesOf soundUnit validPlant soundPool
 sound-is u =
     let months = soundMonths (u .floor) (map (λ h. h .month) (heldOf (u .pool))) in
     let blocks = soundBlocks (isFree (u .pool)) (map (λ h. h .block) (heldOf (u .pool))) in
-    ap (λ (b : Bool). b && soundRequests (settingsOf (u .plant)) (requestsOf (u .requests)) && soundClock (clockOf (u .clock)) && leb (u .command) (6000 * u .plant .settings .minutes))
+    let requests = soundRequests (settingsOf (u .plant)) (requestsOf (u .requests)) in
+    ap (λ (b : Bool). b && requests && soundClock (clockOf (u .clock)) && leb (u .command) (6000 * u .plant .settings .minutes))
     (and-assoc (validPlant (u .plant) && ltb (u .floor) monthCount) months blocks)
 
 -- the fresh unit, with requests that are the fresh ones

@@ -81,7 +81,9 @@ find-released p old floor m s above = go (findOf p m) refl
 -- ---- floor and seconds
 
 pub month-monotone : (s t : ℕ) → s ≤ t → monthOfSecond s ≤ monthOfSecond t
-month-monotone s t l = let d : s / slotLength ≤ t / slotLength = omega arith in rw (month-slot s, month-slot t) (slot-month-monotone (s / slotLength) (t / slotLength) d)
+month-monotone s t l =
+    let d : s / slotLength ≤ t / slotLength = omega arith in
+    rw (month-slot s, month-slot t) (slot-month-monotone (s / slotLength) (t / slotLength) d)
 
 -- the floor of a later second does not look at an earlier one
 pub floor-again : (f s t : ℕ) → s ≤ t → raisedFloor (raisedFloor f s) t ≡ raisedFloor f t
@@ -159,7 +161,8 @@ byte-legal x e = go (eqb x noRate) e
     go false f = leb-true x highestRate (left (leb x highestRate) f)
 
 -- the bytes of a sound block's slots are rates, or none
-pub block-legal : (store : List ℕ) (m b i : ℕ) → i < slotsOfMonth m → soundBlock m (blockOf store b) ≡ true → orZero (fromByte (getD store (place b i) noRate)) ≤ highestRate
+pub block-legal : (store : List ℕ) (m b i : ℕ) → i < slotsOfMonth m → soundBlock m (blockOf store b) ≡ true
+    → orZero (fromByte (getD store (place b i) noRate)) ≤ highestRate
 unfolding soundBlock
 block-legal store m b i l e =
     let days = days-range m .1 in

@@ -4,7 +4,7 @@ use native.Mathlib.Omega.{arith}
 use mathlib.Core.Path.{_≡_, _∙_, refl, sym, ap}
 use mathlib.Core.Bool.{Bool, true, false, cond, not, _&&_}
 use mathlib.Core.List.{List}
-use mathlib.Core.Option.{none, some}
+use mathlib.Core.Option.{Option, none, some}
 use lib.Dec.{leb, ltb, eqb}
 use lib.ListN.{length}
 use borrow.Author.Tests.{lt-ltb, le-ltb, eq-eqb, ne-eqb, ltb-true, leb-true, leb-false, eqb-true}
@@ -91,8 +91,14 @@ accepts u store t e = go (eqb (length store) storeLength) refl (isSound u && sou
     refused : (c : Cause) → Answer.Refused c ≡ Answer.Accepted → Accepts u store t
     refused c f = let z : _≡_ {A = ℕ} 0 1 = cc in absurd (omega arith)
 
-    go : (x : Bool) → eqb (length store) storeLength ≡ x → (y : Bool) → (isSound u && soundStore (heldOf (u .pool)) store) ≡ y → (z : Bool) → ltb t endOfTime ≡ z
-        → doneBy (cond (not x) (some Cause.StoreLength) (cond (not y) (some Cause.Unsound) (cond (not z) (some Cause.Range) none))) (ticked store t u) u .answer ≡ Answer.Accepted
+    -- the row that applies, where the rows' tests are x, y and z
+    first : (x y z : Bool) → Option Cause
+    first x y z = cond (not x) (some Cause.StoreLength) (cond (not y) (some Cause.Unsound) (cond (not z) (some Cause.Range) none))
+
+    go : (x : Bool) → eqb (length store) storeLength ≡ x
+        → (y : Bool) → (isSound u && soundStore (heldOf (u .pool)) store) ≡ y
+        → (z : Bool) → ltb t endOfTime ≡ z
+        → doneBy (first x y z) (ticked store t u) u .answer ≡ Answer.Accepted
         → Accepts u store t
     go false p y q z r f = refused Cause.StoreLength f
     go true p false q z r f = refused Cause.Unsound f

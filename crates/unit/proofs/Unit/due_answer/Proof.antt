@@ -1,5 +1,8 @@
-use mathlib.Core.Path.{sym, _∙_}
+-- `unit::Unit::due_answer` meets its contract.
+use mathlib.Core.Path.{_≡_, sym, _∙_}
+use mathlib.Core.Bool.{true}
 use borrow.Author.Tests.{not-true, not-false}
+use Rattle.unit.specs.Values.{isSound}
 use Rattle.unit.proofs.CallLaws.{due-unsound, due-unset, due-done}
 use borrow.Author.Needs.{needs}
 use Rattle.unit.proofs.Unit.due_answer.Statement.{statement}
@@ -17,8 +20,12 @@ enum-known-clock c = search needs
 enum-told : tie.Need-enum-told
 enum-told c = search needs
 
+-- the unit is sound
+good : (c : tie.Else1) → isSound (c .before .before .args .self) ≡ true
+good c = sym (c .before .sound .ensures) ∙ not-false _ (c .if1 .left)
+
 returns-2 : tie.Need-returns-2
-returns-2 c = sym (due-unset _ (sym (c .before .before .before .sound .ensures) ∙ not-false _ (c .before .before .if1 .left)) (c .enum-told .given .1))
+returns-2 c = sym (due-unset _ (good (c .before .before)) (c .enum-told .given .1))
 
 check-digit-requires : tie.Need-check-digit-requires
 check-digit-requires c κs = search needs
@@ -28,8 +35,9 @@ due-requires c κs = search needs
 
 returns-3 : tie.Need-returns-3
 returns-3 c =
-    let set = c .before .before .before .before .before .clock .given .1 in
-    c .due .ensures ∙ sym (due-done _ (sym (c .before .before .before .before .before .before .before .before .sound .ensures) ∙ not-false _ (c .before .before .before .before .before .before .before .if1 .left)) _ set _ (c .before .check-digit .ensures))
+    let checked = c .before in
+    let set = checked .before .before .before .before in
+    c .due .ensures ∙ sym (due-done _ (good (set .before .before)) _ (set .clock .given .1) _ (checked .check-digit .ensures))
 
 pub due-answer-spec : {M : Type 1} → statement M
 due-answer-spec =

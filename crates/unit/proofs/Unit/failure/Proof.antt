@@ -1,6 +1,8 @@
-use Rattle.rules.specs.Machine.{failed}
-use mathlib.Core.Path.{sym, _∙_}
+-- `unit::Unit::failure` meets its contract.
+use mathlib.Core.Path.{_≡_, sym, _∙_}
+use mathlib.Core.Bool.{true}
 use borrow.Author.Tests.{not-true, not-false}
+use Rattle.unit.specs.Values.{isSound}
 use Rattle.unit.proofs.CallLaws.{failure-unsound, failure-unset, failure-status, failure-done}
 use borrow.Author.Needs.{needs}
 use Rattle.unit.proofs.Unit.failure.Statement.{statement}
@@ -24,8 +26,14 @@ enum-told c = search needs
 refuse-requires-2 : tie.Need-refuse-requires-2
 refuse-requires-2 c κs = search needs
 
+-- the unit is sound
+good : (c : tie.Else1) → isSound (c .before .before .args .self) ≡ true
+good c = sym (c .before .sound .ensures) ∙ not-false _ (c .if1 .left)
+
 returns-2 : tie.Need-returns-2
-returns-2 c = c .refuse2 .ensures ∙ sym (failure-unset _ (sym (c .before .before .before .before .sound .ensures) ∙ not-false _ (c .before .before .before .if1 .left)) _ _ (c .before .enum-told .given .1))
+returns-2 c =
+    let unset = c .before in
+    c .refuse2 .ensures ∙ sym (failure-unset _ (good (unset .before .before)) _ _ (unset .enum-told .given .1))
 
 is-status-requires : tie.Need-is-status-requires
 is-status-requires c κs = search needs
@@ -35,8 +43,10 @@ refuse-requires-3 c κs = search needs
 
 returns-3 : tie.Need-returns-3
 returns-3 c =
-    let status = sym (c .before .before .is-status .ensures) ∙ not-true _ (c .before .if2 .taken) in
-    c .refuse3 .ensures ∙ sym (failure-status _ (sym (c .before .before .before .before .before .before .before .sound .ensures) ∙ not-false _ (c .before .before .before .before .before .before .if1 .left)) _ (c .before .before .before .before .clock .given .1) _ _ status)
+    let asked = c .before .before in
+    let set = asked .before .before in
+    let status = sym (asked .is-status .ensures) ∙ not-true _ (c .before .if2 .taken) in
+    c .refuse3 .ensures ∙ sym (failure-status _ (good (set .before .before)) _ (set .clock .given .1) _ _ status)
 
 check-digit-requires : tie.Need-check-digit-requires
 check-digit-requires c κs = search needs
@@ -46,8 +56,12 @@ failed-requires c κs = search needs
 
 returns-4 : tie.Need-returns-4
 returns-4 c =
-    let status = sym (c .before .before .before .before .before .before .is-status .ensures) ∙ not-false _ (c .before .before .before .before .before .if2 .left) in
-    sym (failure-done _ (sym (c .before .before .before .before .before .before .before .before .before .before .before .sound .ensures) ∙ not-false _ (c .before .before .before .before .before .before .before .before .before .before .if1 .left)) _ (c .before .before .before .before .before .before .before .before .clock .given .1) _ _ status _ (c .before .check-digit .ensures) _ (c .failed .ensures))
+    let checked = c .before in
+    let known = checked .before .before .before .before in
+    let asked = known .before in
+    let set = asked .before .before in
+    let status = sym (asked .is-status .ensures) ∙ not-false _ (known .if2 .left) in
+    sym (failure-done _ (good (set .before .before)) _ (set .clock .given .1) _ _ status _ (checked .check-digit .ensures) _ (c .failed .ensures))
 
 pub failure-spec : {M : Type 1} → statement M
 failure-spec =

@@ -30,7 +30,8 @@ returns-2 c =
     let q = c .before .before in
     let e = q .before .before .before .before .before .before .before in
     let a = e .before .before .before .before .args in
-    request-sound (a .self) (now (a .segment)) (now (a .out)) (sym (e .before .sound .ensures) ∙ not-false _ (e .if1 .left)) _ _ (q .request .ensures .0) (q .request .ensures .1)
+    let good = sym (e .before .sound .ensures) ∙ not-false _ (e .if1 .left) in
+    request-sound (a .self) (now (a .segment)) (now (a .out)) good _ _ (q .request .ensures .0) (q .request .ensures .1)
 
 pub request-answer-spec : {M : Type 1} → statement M
 request-answer-spec =

@@ -1,3 +1,4 @@
+-- `unit::Unit::sound` meets its contract.
 use mathlib.Core.Path.{sym}
 use Rattle.unit.proofs.CallLaws.{sound-is}
 use borrow.Author.Needs.{needs}
@@ -27,7 +28,13 @@ mul-result c = search needs
 
 returns : tie.Need-returns
 returns c =
-    rw (c .before .before .before .before .before .before .valid .ensures, c .before .before .before .before .sound .ensures, c .before .before .before .sound2 .ensures, c .before .before .sound3 .ensures) (sym (sound-is (c .before .before .before .before .before .before .before .before .before .before .args .self)))
+    let clock = c .before .before in
+    let requests = clock .before in
+    let pool = requests .before in
+    let plant = pool .before .before in
+    let start = plant .before .before .before .before in
+    rw (plant .valid .ensures, pool .sound .ensures, requests .sound2 .ensures, clock .sound3 .ensures)
+    (sym (sound-is (start .args .self)))
 
 pub sound-spec : {M : Type 1} → statement M
 sound-spec =
