@@ -96,7 +96,8 @@ module _ (s : Settings) (p : Pool) (store : List ℕ) where
   commandOver-add (suc n) k c x = rw (suc-add n k, add-suc c n, ← suc-add c n) (commandOver-add n k (suc c) _)
 
   -- while the goal stays, they are one move
-  pub commandOver-moved : (goal n c x : ℕ) → ((t : ℕ) → c < t → t ≤ c + n → goalOf s p store (slotOf t) ≡ goal) → commandOver s p store n c x ≡ moved goal n x
+  pub commandOver-moved : (goal n c x : ℕ) → ((t : ℕ) → c < t → t ≤ c + n → goalOf s p store (slotOf t) ≡ goal)
+      → commandOver s p store n c x ≡ moved goal n x
   unfolding commandOver
   commandOver-moved goal zero c x h = sym (moved-none goal x)
   commandOver-moved goal (suc n) c x h =
@@ -104,7 +105,8 @@ module _ (s : Settings) (p : Pool) (store : List ℕ) where
       (commandOver-moved goal n (suc c) (approach goal x) (λ t a b. h t (omega arith) (omega arith)) ∙ moved-more goal n x)
 
   -- within a slot it stays
-  pub commandOver-slot : (slot n c x : ℕ) → slotLength * slot ≤ c + 1 → c + n < slotLength * slot + slotLength → commandOver s p store n c x ≡ moved (goalOf s p store slot) n x
+  pub commandOver-slot : (slot n c x : ℕ) → slotLength * slot ≤ c + 1 → c + n < slotLength * slot + slotLength
+      → commandOver s p store n c x ≡ moved (goalOf s p store slot) n x
   commandOver-slot slot n c x from until =
       commandOver-moved (goalOf s p store slot) n c x
       (λ t a b. let e : slotOf t ≡ slot = omega arith in ap (goalOf s p store) e)
@@ -186,10 +188,11 @@ module _ (s : Settings) (p : Pool) (store : List ℕ) (reach : (slot : ℕ) → 
       let c = lastSecond slot in
       let many : slotLength * suc k ≡ slotLength * k + slotLength = omega arith in
       let start : c + slotLength * k ≡ lastSecond (slot + k) = omega arith in
+      let most = commandOver-most s p store 180000 (slotLength * k) c x h (λ t a b. reach (slotOf t)) in
       ap (λ (n : ℕ). commandOver s p store n c x) many
       ∙ commandOver-add s p store (slotLength * k) slotLength c x
       ∙ ap (λ (d : ℕ). commandOver s p store slotLength d (commandOver s p store (slotLength * k) c x)) start
-      ∙ commandOver-whole (slot + k) (commandOver s p store (slotLength * k) c x) (commandOver-most s p store 180000 (slotLength * k) c x h (λ t a b. reach (slotOf t)))
+      ∙ commandOver-whole (slot + k) (commandOver s p store (slotLength * k) c x) most
       ∙ ap (goalOf s p store) (sym (add-suc slot k))
 
 -- the whole slots after slot `first` and before slot `last`
@@ -213,7 +216,8 @@ module _ (s : Settings) (p : Pool) (store : List ℕ) where
 
 module _ (s : Settings) (p : Pool) (store : List ℕ) (clock until x : ℕ) (later : clock < until) where
   -- all seconds in one slot
-  pub over-one : (slot : ℕ) → slot ≡ slotOf (clock + 1) → slot ≡ slotOf until → commandOver s p store (until - clock) clock x ≡ moved (goalOf s p store slot) (until - clock) x
+  pub over-one : (slot : ℕ) → slot ≡ slotOf (clock + 1) → slot ≡ slotOf until
+      → commandOver s p store (until - clock) clock x ≡ moved (goalOf s p store slot) (until - clock) x
   over-one slot ef el = commandOver-slot s p store slot (until - clock) clock x (omega arith) (omega arith)
 
   -- r is the command after the rest of the first slot, the whole slots after it, and the seconds of the last one
@@ -269,6 +273,7 @@ module _ (plant : Plant) (p : Pool) (store : List ℕ) (clock until x : ℕ) whe
       never false = refl
 
   -- a sound unit has such values: its command goes second by second
-  pub after-over : plant .settings .minutes ≤ 10 → x ≤ 60000 → commandAfter plant p store clock until x ≡ commandOver (settingsOf plant) p store (until - clock) clock x
+  pub after-over : plant .settings .minutes ≤ 10 → x ≤ 60000
+      → commandAfter plant p store clock until x ≡ commandOver (settingsOf plant) p store (until - clock) clock x
   unfolding commandAfter
   after-over m h = rw (le-leb (plant .settings .minutes) 10 m, le-leb x 60000 h) refl

@@ -16,10 +16,12 @@ goal-of-requires c κs = search needs
 
 returns : tie.Need-returns
 returns c =
-    let b = c .before .before in
-    let a = b .before .args in
+    let lent = c .before .before in
+    let start = lent .before in
+    let a = start .args in
     c .goal-of .ensures
-    ∙ between-some (settingsOf (a .plant)) (a .pool) (now (a .store)) (b .before .pre .few) (λ i. b .shared-slice-known .given i .fits) (a .first) (a .last) _ (a .command) (c .before .if1 .taken) (omega arith) (b .before .pre .low)
+    ∙ between-some (settingsOf (a .plant)) (a .pool) (now (a .store)) (start .pre .few) (λ i. lent .shared-slice-known .given i .fits)
+    (a .first) (a .last) _ (a .command) (c .before .if1 .taken) (omega arith) (start .pre .low)
 
 returns-2 : tie.Need-returns-2
 returns-2 c =

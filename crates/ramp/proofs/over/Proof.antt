@@ -27,12 +27,14 @@ in-slot-requires c κs = search needs
 
 returns : tie.Need-returns
 returns c =
-    let b = c .before .before .before .before in
-    let a = b .before .args in
+    let start = c .before .before .before .before .before in
+    let a = start .args in
     let first = c .before .before .before .slot-of in
     let last = c .before .before .slot-of2 in
+    let same = c .before .if1 .taken ∙ last .ensures in
     c .in-slot .ensures
-    ∙ sym (over-one (settingsOf (a .plant)) (a .pool) (now (a .store)) (a .clock) (a .until) (a .command) (b .before .pre .later) (first .result) (first .ensures) (c .before .if1 .taken ∙ last .ensures))
+    ∙ sym (over-one (settingsOf (a .plant)) (a .pool) (now (a .store)) (a .clock) (a .until) (a .command) (start .pre .later)
+    (first .result) (first .ensures) same)
 
 add-rest : tie.Need-add-rest
 add-rest c = search needs
