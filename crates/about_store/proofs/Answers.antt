@@ -70,9 +70,12 @@ module _ (st : Stored) (M : Machine) (a : Agrees st M) where
       ∙ ap (λ (n : ℕ). countBelow monthCount (isHeld M) + n) (sym (missing-view (viewOf M) rs g (agrees-plain st M a) st (agrees-shows st M a)))
 
   -- there are blocks for a file's months exactly where the machine holds no more months than blocks with it
-  pub room : (c : ℕ) (f : File) → GoodFile f
-      → leb (missing (st .pool) (M .floor) (runStart (recordsIn (f .body))) (runLength (recordsIn (f .body)))) (freeCount (st .pool)) ≡ leb (heldCount (withFile c f M)) blockCount
-  room c f g = rw (held-with-file c f g) (go (missing (st .pool) (M .floor) (runStart (recordsIn (f .body))) (runLength (recordsIn (f .body)))) (freeCount (st .pool)) (heldCount M) free-and-held)
+  pub room : (c : ℕ) (f : File) → GoodFile f → let rs = recordsIn (f .body) in
+      leb (missing (st .pool) (M .floor) (runStart rs) (runLength rs)) (freeCount (st .pool)) ≡ leb (heldCount (withFile c f M)) blockCount
+  room c f g =
+      let rs = recordsIn (f .body) in
+      let needed = missing (st .pool) (M .floor) (runStart rs) (runLength rs) in
+      rw (held-with-file c f g) (go needed (freeCount (st .pool)) (heldCount M) free-and-held)
     where
       go : (n c h : ℕ) → c + h ≡ blockCount → leb n c ≡ leb (h + n) blockCount
       go n c h e = same (λ q. le-leb (h + n) blockCount (omega (arith, leb-true n c q))) (λ q. le-leb n c (omega (arith, leb-true (h + n) blockCount q)))

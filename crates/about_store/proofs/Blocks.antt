@@ -49,7 +49,8 @@ module _ (st : Stored) (M : Machine) (a : Agrees st M) where
   block-bytes m b i =
       ext-getD noRate (blockOf (st .store) b) (monthBytes M m) (long ∙ sym (bytes-length M m 0 blockLength))
       (λ j l. let k : j < blockLength = rw long at l in
-      block-at (st .store) (a .full) b (i .below) j k ∙ a .bytes m b j i k ∙ sym (bytes-at M m 0 blockLength j k ∙ ap (λ (n : ℕ). toByte (rateAt M m n)) (zero-add j)))
+      let rate = bytes-at M m 0 blockLength j k ∙ ap (λ (n : ℕ). toByte (rateAt M m n)) (zero-add j) in
+      block-at (st .store) (a .full) b (i .below) j k ∙ a .bytes m b j i k ∙ sym rate)
     where
       long : length (blockOf (st .store) b) ≡ blockLength
       long = block-length (st .store) (a .full) b (i .below)
@@ -85,4 +86,6 @@ module _ (st : Stored) (M : Machine) (a : Agrees st M) where
       let months = map (λ (h : HeldMonth). h .month) (heldOf (st .pool)) in
       let blocks = map (λ (h : HeldMonth). h .block) (heldOf (st .pool)) in
       let e = both (soundMonths (M .floor) months) (soundBlocks free blocks) (facts-pool (st .pool) (M .floor) (a .sound)) .1 in
-      both (distinct blocks) (all (λ b. ltb b blockCount) blocks) (both (distinct blocks && all (λ b. ltb b blockCount) blocks) (allBelow blockCount (λ b. Bool·beq (free b) (not (member b blocks)))) e .0) .0
+      let inside = all (λ b. ltb b blockCount) blocks in
+      let rest = allBelow blockCount (λ b. Bool·beq (free b) (not (member b blocks))) in
+      both (distinct blocks) inside (both (distinct blocks && inside) rest e .0) .0

@@ -27,7 +27,8 @@ sets-in l a (v ∷ vs) zero d h k = rw add-zero (sets-out (set l a v) (suc a) vs
 sets-in l a (v ∷ vs) (suc j) d h k = rw (add-suc, ← suc-add) (sets-in (set l a v) (suc a) vs j d (le-of-suc-le-suc h) (rw length-set (omega arith)))
 
 -- stores inside block b, seen from block c
-pub write-there : (s vs : List ℕ) (b f c i d : ℕ) → c ≢ b → i < blockLength → f + length vs ≤ blockLength → getD (sets s (place b f) vs) (place c i) d ≡ getD s (place c i) d
+pub write-there : (s vs : List ℕ) (b f c i d : ℕ) → c ≢ b → i < blockLength → f + length vs ≤ blockLength
+    → getD (sets s (place b f) vs) (place c i) d ≡ getD s (place c i) d
 write-there s vs b f c i d n l q = go (ltb c b) refl
   where
     go : (t : Bool) → ltb c b ≡ t → getD (sets s (place b f) vs) (place c i) d ≡ getD s (place c i) d
@@ -55,19 +56,22 @@ pub laid-there : (s rates : List ℕ) (b f c i d : ℕ) → c ≢ b → i < bloc
 laid-there s rates b f c i d n l q = write-there s (rateBytes rates) b f c i d n l (rw (bytes-length rates) q)
 
 pub laid-here : (s rates : List ℕ) (b f i d : ℕ) → f + length rates ≤ blockLength → b * blockLength + blockLength ≤ length s
-    → getD (sets s (place b f) (rateBytes rates)) (place b i) d ≡ cond (leb f i && ltb i (f + length rates)) (toByte (some (getD rates (i - f) 0))) (getD s (place b i) d)
+    → getD (sets s (place b f) (rateBytes rates)) (place b i) d
+    ≡ cond (leb f i && ltb i (f + length rates)) (toByte (some (getD rates (i - f) 0))) (getD s (place b i) d)
 laid-here s rates b f i d p q =
     rw (bytes-length rates) at (write-here s (rateBytes rates) b f i d 0 (rw (bytes-length rates) p) q)
     ∙ go (leb f i) refl (ltb i (f + length rates)) refl
   where
     go : (t : Bool) → leb f i ≡ t → (u : Bool) → ltb i (f + length rates) ≡ u
-        → cond (t && u) (getD (rateBytes rates) (i - f) 0) (getD s (place b i) d) ≡ cond (t && u) (toByte (some (getD rates (i - f) 0))) (getD s (place b i) d)
+        → cond (t && u) (getD (rateBytes rates) (i - f) 0) (getD s (place b i) d)
+        ≡ cond (t && u) (toByte (some (getD rates (i - f) 0))) (getD s (place b i) d)
     go true e true k = bytes-at rates (i - f) 0 (omega (arith, leb-true f i e, ltb-true i (f + length rates) k))
     go true e false k = refl
     go false e u k = refl
 
 -- a whole block filled
-pub fill-here : (s vs : List ℕ) (b i d : ℕ) → length vs ≡ blockLength → i < blockLength → b * blockLength + blockLength ≤ length s → getD (sets s (place b 0) vs) (place b i) d ≡ getD vs i d
+pub fill-here : (s vs : List ℕ) (b i d : ℕ) → length vs ≡ blockLength → i < blockLength → b * blockLength + blockLength ≤ length s
+    → getD (sets s (place b 0) vs) (place b i) d ≡ getD vs i d
 fill-here s vs b i d e l q =
     let z : place b i ≡ place b 0 + i = omega arith in
     rw z (sets-in s (place b 0) vs i d (omega arith) (omega arith))

@@ -54,7 +54,9 @@ module _ (m s : ℕ) (from : firstSlot m ≤ s) (until : s < firstSlot (suc m)) 
   unfolding anyFile lastRate
   last-none [] o e = refl
   last-none (f ∷ fs) o e =
-      rw (in-none (recordsIn (f .body)) (neither (anyRecord m (recordsIn (f .body))) (anyFile m fs) e .0)) (last-none fs o (neither (anyRecord m (recordsIn (f .body))) (anyFile m fs) e .1))
+      let rs = recordsIn (f .body) in
+      let n = neither (anyRecord m rs) (anyFile m fs) e in
+      rw (in-none rs (n .0)) (last-none fs o (n .1))
 
 -- records that begin after slot s do not cover it
 pub before-none : (s t : ℕ) (rs : List Record) → RunFrom t rs → s < t → rateIn s rs ≡ none

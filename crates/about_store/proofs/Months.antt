@@ -101,7 +101,8 @@ months-run m (r ∷ rs) e low =
     let last = first-slot-end in
     let is : monthOfSlot (startOf r) ≡ m = ap monthOfSlot (w .start) ∙ slot-month-first m (w .few) in
     let on : firstSlot m + length (r .rates) ≡ firstSlot (suc m) = omega (arith, w .count) in
-    let rest = months-run (suc m) rs (both (wholeMonth m r) (monthsFrom (suc m) rs) e .1) (both (allAtMost highestRate (r .rates)) (every (λ r. allAtMost highestRate (r .rates)) rs) low .1) in (
+    let lows = both (allAtMost highestRate (r .rates)) (every (λ r. allAtMost highestRate (r .rates)) rs) low in
+    let rest = months-run (suc m) rs (both (wholeMonth m r) (monthsFrom (suc m) rs) e .1) (lows .1) in (
       w .start,
       record {
         begins = omega (arith, w .start, first-slot-rises m);

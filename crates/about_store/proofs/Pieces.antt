@@ -70,10 +70,12 @@ module _ (k s : ℕ) (rates : List ℕ) where
 
   pub piece-some : ltb 0 (length (P .rates)) ≡ meets k s (length rates)
   piece-some =
+      let from = max s (firstSlot k) in
+      let until = min (s + length rates) (firstSlot (suc k)) in
       rw piece-length
       (same
-      (λ e. lt-ltb (max s (firstSlot k)) (min (s + length rates) (firstSlot (suc k))) (omega (arith, ltb-true 0 (min (s + length rates) (firstSlot (suc k)) - max s (firstSlot k)) e)))
-      (λ e. lt-ltb 0 (min (s + length rates) (firstSlot (suc k)) - max s (firstSlot k)) (omega (arith, ltb-true (max s (firstSlot k)) (min (s + length rates) (firstSlot (suc k))) e))))
+      (λ e. lt-ltb from until (omega (arith, ltb-true 0 (until - from) e)))
+      (λ e. lt-ltb 0 (until - from) (omega (arith, ltb-true from until e))))
 
   abbrev inPiece : ℕ → Bool
   inPiece i = leb (P .from) i && ltb i (P .from + length (P .rates))
@@ -96,8 +98,9 @@ module _ (k s : ℕ) (rates : List ℕ) where
       from e =
           let w = run-slot k i s (length rates) e in
           let f = in-part s (s + length rates) (firstSlot k) (firstSlot (suc k)) i (w .1) (w .2) (omega (arith, w .0, first-slot-step k)) in
-          rw (piece-from, piece-length)
-          (is-between (max s (firstSlot k) - firstSlot k) i (max s (firstSlot k) - firstSlot k + (min (s + length rates) (firstSlot (suc k)) - max s (firstSlot k))) (f .0) (f .1))
+          let low = max s (firstSlot k) in
+          let high = min (s + length rates) (firstSlot (suc k)) in
+          rw (piece-from, piece-length) (is-between (low - firstSlot k) i (low - firstSlot k + (high - low)) (f .0) (f .1))
 
   pub piece-says : (i : ℕ) → inPiece i ≡ true → pieceSays i P ≡ runSays k i s rates
   unfolding pieceIn
@@ -106,10 +109,12 @@ module _ (k s : ℕ) (rates : List ℕ) where
       let from = max s (firstSlot k) in
       let until = min (s + length rates) (firstSlot (suc k)) in
       ap some
-      (part-at rates (from - s) (until - from) (i - (from - firstSlot k)) (firstSlot k + i - s) (omega (arith, w .0, w .1)) (part-index (firstSlot k) s i (w .0)))
+      (part-at rates (from - s) (until - from) (i - (from - firstSlot k)) (firstSlot k + i - s)
+      (omega (arith, w .0, w .1)) (part-index (firstSlot k) s i (w .0)))
 
   -- a piece that has rates fits a block
   pub piece-inside : meets k s (length rates) ≡ true → P .from + length (P .rates) ≤ blockLength
   piece-inside t =
-      let size = part-size s (s + length rates) (firstSlot k) (firstSlot (suc k)) (ltb-true (max s (firstSlot k)) (min (s + length rates) (firstSlot (suc k))) t) in
+      let meet = ltb-true (max s (firstSlot k)) (min (s + length rates) (firstSlot (suc k))) t in
+      let size = part-size s (s + length rates) (firstSlot k) (firstSlot (suc k)) meet in
       rw (piece-from, piece-length) (omega (arith, first-slot-step k, days-range k))

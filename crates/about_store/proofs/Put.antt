@@ -31,7 +31,8 @@ byte-cond true r o = refl
 byte-cond false r o = refl
 
 -- a piece that fits a block is laid into its month's
-pub lay-shows : (st : Stored) (v : View) → Shows st v → (q : Piece) → q .from + length (q .rates) ≤ blockLength → v .held (q .month) ≡ true → Shows (layPiece q st) (layView q v)
+pub lay-shows : (st : Stored) (v : View) → Shows st v
+    → (q : Piece) → q .from + length (q .rates) ≤ blockLength → v .held (q .month) ≡ true → Shows (layPiece q st) (layView q v)
 unfolding layPiece
 lay-shows st v h q fits e = go (findOf (st .pool) (q .month)) refl
   where
@@ -52,7 +53,8 @@ lay-shows st v h q fits e = go (findOf (st .pool) (q .month)) refl
         in-b = find-at (st .pool) (q .month) b f
 
         at-byte : (x c i : ℕ) → InBlock (st .pool) x c → i < blockLength → Dec (c ≡ b)
-            → getD (sets (st .store) (place b (q .from)) (rateBytes (q .rates))) (place c i) noRate ≡ toByte (cond (pieceCovers x i q) (pieceSays i q) (v .says x i))
+            → getD (sets (st .store) (place b (q .from)) (rateBytes (q .rates))) (place c i) noRate
+            ≡ toByte (cond (pieceCovers x i q) (pieceSays i q) (v .says x i))
         at-byte x c i k j (yes y) =
             let m : x ≡ q .month = sym (k .month) ∙ ap (λ (z : ℕ). getD (st .pool .months) z 0) y ∙ in-b .month in
             rw (y, m, eq-eqb (q .month) (q .month) refl, ← byte-cond)
@@ -82,14 +84,17 @@ pub record Fits (q : Piece) : Type 0 where
   pub month : q .month ≤ lastMonth
   pub inside : q .from + length (q .rates) ≤ blockLength
 
-pub put-shows : (st : Stored) (v : View) → Shows st v → (q : Piece) → (live (v .floor) q ≡ true → Fits q) → countBelow monthCount (putView q v .held) ≤ blockCount
+pub put-shows : (st : Stored) (v : View) → Shows st v → (q : Piece) → (live (v .floor) q ≡ true → Fits q)
+    → countBelow monthCount (putView q v .held) ≤ blockCount
     → Shows (putPiece (v .floor) q st) (putView q v)
 unfolding putPiece putAt
 put-shows st v h q fits few = go (live (v .floor) q) refl few
   where
-    go : (t : Bool) → live (v .floor) q ≡ t → countBelow monthCount (putAt t q v .held) ≤ blockCount → Shows (cond t (layPiece q (openMonth (q .month) st)) st) (putAt t q v)
+    go : (t : Bool) → live (v .floor) q ≡ t → countBelow monthCount (putAt t q v .held) ≤ blockCount
+        → Shows (cond t (layPiece q (openMonth (q .month) st)) st) (putAt t q v)
     go true e l =
         let ok = fits e in
         let from = leb-true (v .floor) (q .month) (both (leb (v .floor) (q .month)) (ltb 0 (length (q .rates))) e .0) in
-        lay-shows (openMonth (q .month) st) (openView (q .month) v) (open-shows st v h (q .month) from (ok .month) l) q (ok .inside) (rw (eq-eqb (q .month) (q .month) refl))
+        let opened = open-shows st v h (q .month) from (ok .month) l in
+        lay-shows (openMonth (q .month) st) (openView (q .month) v) opened q (ok .inside) (rw (eq-eqb (q .month) (q .month) refl))
     go false e l = h

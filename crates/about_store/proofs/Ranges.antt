@@ -29,7 +29,9 @@ pub record Overlap (x y z w : ℕ) : Type 0 where
   pub yw : y < w
 
 pub meet-facts : (x y z w : ℕ) → ltb (max x y) (min z w) ≡ true → Overlap x y z w
-meet-facts x y z w e = let h : max x y < min z w = ltb-true (max x y) (min z w) e in record { xz = omega arith; xw = omega arith; yz = omega arith; yw = omega arith }
+meet-facts x y z w e =
+    let h : max x y < min z w = ltb-true (max x y) (min z w) e in
+    record { xz = omega arith; xw = omega arith; yz = omega arith; yw = omega arith }
 
 pub facts-meet : (x y z w : ℕ) → Overlap x y z w → ltb (max x y) (min z w) ≡ true
 facts-meet x y z w o = lt-ltb (max x y) (min z w) (omega arith)

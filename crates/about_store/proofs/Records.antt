@@ -102,7 +102,8 @@ module _ (c : ℕ) (f : File) (M : Machine) where
       table false x y = refl
 
   says-with : M .floor ≤ lastMonth → (k i : ℕ)
-      → rateAt (withFile c f M) k i ≡ cond (leb (M .floor) k && ltb i (slotsOfMonth k)) (orElse (rateIn (firstSlot k + i) (recordsIn (f .body))) (rateAt M k i)) (rateAt M k i)
+      → rateAt (withFile c f M) k i
+      ≡ cond (leb (M .floor) k && ltb i (slotsOfMonth k)) (orElse (rateIn (firstSlot k + i) (recordsIn (f .body))) (rateAt M k i)) (rateAt M k i)
   unfolding withFile
   says-with low k i =
       rate-at (withFile c f M) low k i
@@ -114,7 +115,8 @@ module _ (c : ℕ) (f : File) (M : Machine) where
       go false n o = refl
 
 -- a file taken, as the machine sees it, is its records put in order
-pub view-file : (t c : ℕ) (f : File) (M : Machine) → M .floor ≤ lastMonth → RunFrom t (recordsIn (f .body)) → viewOf (withFile c f M) ≡ recordsView (recordsIn (f .body)) (viewOf M)
+pub view-file : (t c : ℕ) (f : File) (M : Machine) → M .floor ≤ lastMonth → RunFrom t (recordsIn (f .body))
+    → viewOf (withFile c f M) ≡ recordsView (recordsIn (f .body)) (viewOf M)
 view-file t c f M low g = λ j. record { floor = same-floor j; held = λ k. same-held k j; says = λ k i. same-says k i j }
   where
     rs : List Record
@@ -134,7 +136,8 @@ view-file t c f M low g = λ j. record { floor = same-floor j; held = λ k. same
 record-more : (rs : List Record) (v : View) (k : ℕ) → v .held k ≡ true → recordsView rs v .held k ≡ true
 record-more rs v k e = records-held rs v k ∙ rw e (or-true (leb (v .floor) k && anyRecord k rs))
 
-pub records-shows : (t : ℕ) (rs : List Record) → RunFrom t rs → (st : Stored) (v : View) → Shows st v → countBelow monthCount (recordsView rs v .held) ≤ blockCount
+pub records-shows : (t : ℕ) (rs : List Record) → RunFrom t rs → (st : Stored) (v : View) → Shows st v
+    → countBelow monthCount (recordsView rs v .held) ≤ blockCount
     → Shows (putRecords (v .floor) rs st) (recordsView rs v)
 unfolding recordsView putRecords runView
 records-shows t [] g st v h few = h

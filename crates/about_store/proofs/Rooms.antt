@@ -33,7 +33,8 @@ join s n k a b = same to from
     to e =
         ⊎-elim
         (λ q. let o = meet-facts s a (s + n) b q in facts-meet s a (s + (n + k)) b (record { xz = omega arith; xw = o .xw; yz = omega arith; yw = o .yw }))
-        (λ q. let o = meet-facts (s + n) a (s + n + k) b q in facts-meet s a (s + (n + k)) b (record { xz = omega arith; xw = omega arith; yz = omega arith; yw = o .yw }))
+        (λ q. let o = meet-facts (s + n) a (s + n + k) b q in
+        facts-meet s a (s + (n + k)) b (record { xz = omega arith; xw = omega arith; yz = omega arith; yw = o .yw }))
         (either (ltb (max s a) (min (s + n) b)) (ltb (max (s + n) a) (min (s + n + k) b)) e)
 
     from : ltb (max s a) (min (s + (n + k)) b) ≡ true → ltb (max s a) (min (s + n) b) || ltb (max (s + n) a) (min (s + n + k) b) ≡ true

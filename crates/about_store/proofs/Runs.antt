@@ -61,7 +61,8 @@ module _ (floor k s : ℕ) (rates : List ℕ) where
       go false c e = refl
 
   -- what slot i of the piece's month says after it is put
-  piece-here : (i : ℕ) (o : Option ℕ) → cond (live floor P && pieceCovers k i P) (pieceSays i P) o ≡ cond (leb floor k && runCovers k i s (length rates)) (runSays k i s rates) o
+  piece-here : (i : ℕ) (o : Option ℕ) → cond (live floor P && pieceCovers k i P) (pieceSays i P) o
+      ≡ cond (leb floor k && runCovers k i s (length rates)) (runSays k i s rates) o
   piece-here i o = rw (live-covers i) (go (leb floor k) (runCovers k i s (length rates)) refl)
     where
       go : (a c : Bool) → runCovers k i s (length rates) ≡ c → cond (a && c) (pieceSays i P) o ≡ cond (a && c) (runSays k i s rates) o
@@ -120,7 +121,8 @@ module _ (s : ℕ) (rates : List ℕ) (begins : s < slotCount) (ends : s + lengt
     same-says k i = go (ℕ-discrete k m) (ℕ-discrete k (suc m))
       where
         go : Dec (k ≡ m) → Dec (k ≡ suc m)
-            → cond (live (v .floor) second && pieceCovers k i second) (pieceSays i second) (cond (live (v .floor) first && pieceCovers k i first) (pieceSays i first) (v .says k i))
+            → cond (live (v .floor) second && pieceCovers k i second) (pieceSays i second)
+            (cond (live (v .floor) first && pieceCovers k i first) (pieceSays i first) (v .says k i))
             ≡ cond (leb (v .floor) k && runCovers k i s (length rates)) (runSays k i s rates) (v .says k i)
         go (yes a) d = rw (piece-there (v .floor) (suc m) s rates k i (λ z. omega arith), a) (piece-here (v .floor) m s rates i (v .says m i))
         go (no a) (yes b) = rw (piece-there (v .floor) m s rates k i a, b) (piece-here (v .floor) (suc m) s rates i (v .says (suc m) i))
@@ -150,10 +152,15 @@ module _ (s : ℕ) (rates : List ℕ) (begins : s < slotCount) (ends : s + lengt
     first-less k e = sym (same-held k) ∙ rw e (or-true (live (v .floor) second && eqb k (second .month)))
 
     -- a run of rates put
-    pub run-shows : (st : Stored) → Shows st v → countBelow monthCount (runView s rates v .held) ≤ blockCount → Shows (putRun (v .floor) s rates st) (runView s rates v)
+    pub run-shows : (st : Stored) → Shows st v → countBelow monthCount (runView s rates v .held) ≤ blockCount
+        → Shows (putRun (v .floor) s rates st) (runView s rates v)
     unfolding putRun canPut putAt
     run-shows st h few =
-        let one = put-shows st v h first (piece-fits m) (omega (arith, count-le monthCount (putView first v .held) (runView s rates v .held) first-less)) in
-        let two = put-shows (putPiece (v .floor) first st) (putView first v) one second (piece-fits (suc m)) (subst (λ (w : View). countBelow monthCount (w .held) ≤ blockCount) (sym two-pieces) few) in
-        rw (eq-eqb (length (st .store)) storeLength (h .full), le-leb (s + length rates) slotCount ends, le-leb (s + length rates) (firstSlot (suc (suc m))) near)
-        (subst (λ (w : View). Shows (putPiece (v .floor) second (putPiece (v .floor) first st)) w) two-pieces two)
+        let less = count-le monthCount (putView first v .held) (runView s rates v .held) first-less in
+        let one = put-shows st v h first (piece-fits m) (omega (arith, less)) in
+        let both-few = subst (λ (w : View). countBelow monthCount (w .held) ≤ blockCount) (sym two-pieces) few in
+        let st′ = putPiece (v .floor) first st in
+        let two = put-shows st′ (putView first v) one second (piece-fits (suc m)) both-few in
+        let end = s + length rates in
+        rw (eq-eqb (length (st .store)) storeLength (h .full), le-leb end slotCount ends, le-leb end (firstSlot (suc (suc m))) near)
+        (subst (λ (w : View). Shows (putPiece (v .floor) second st′) w) two-pieces two)

@@ -140,14 +140,16 @@ same-files st M N ef ee a = record {
 -- ---- a file put
 
 -- no rate of a file that can be put is above 100
-low-with : (c : ℕ) (M : Machine) (f : File) → GoodFile f → ((s r : ℕ) → rateOf M s ≡ some r → r ≤ highestRate) → (s r : ℕ) → rateOf (withFile c f M) s ≡ some r → r ≤ highestRate
+low-with : (c : ℕ) (M : Machine) (f : File) → GoodFile f → ((s r : ℕ) → rateOf M s ≡ some r → r ≤ highestRate)
+    → (s r : ℕ) → rateOf (withFile c f M) s ≡ some r → r ≤ highestRate
 unfolding rateOf withFile
 low-with c M f g low s r e =
     let rs = recordsIn (f .body) in
     let w = cond-some (ltb (monthOfSlot s) (M .floor)) (lastRate s (M .files ++ (f ∷ [])) none) r e in
     go (rateIn s rs) refl (sym (last-more s (M .files) f none) ∙ w .1) (w .0)
   where
-    go : (o : Option ℕ) → rateIn s (recordsIn (f .body)) ≡ o → orElse o (lastRate s (M .files) none) ≡ some r → ltb (monthOfSlot s) (M .floor) ≡ false → r ≤ highestRate
+    go : (o : Option ℕ) → rateIn s (recordsIn (f .body)) ≡ o → orElse o (lastRate s (M .files) none) ≡ some r
+        → ltb (monthOfSlot s) (M .floor) ≡ false → r ≤ highestRate
     go none q x t = low s r (rw t x)
     go (some y) q x t = in-low s (runStart (recordsIn (f .body))) (recordsIn (f .body)) g r (q ∙ x)
 

@@ -80,7 +80,8 @@ open-leaves m st long = go (findOf (st .pool) m)
         (λ z. let w = take-in (st .pool) m z in subst Open (sym (w .3)) (filled (w .0) (w .1) (w .2)))
         (eq-zero-or-pos (freeCount (st .pool)))
 
-lay-leaves : (q : Piece) (st : Stored) → length (st .pool .months) ≡ blockCount → q .from + length (q .rates) ≤ blockLength → Leaves true (q .month) st (layPiece q st)
+lay-leaves : (q : Piece) (st : Stored) → length (st .pool .months) ≡ blockCount → q .from + length (q .rates) ≤ blockLength
+    → Leaves true (q .month) st (layPiece q st)
 unfolding layPiece
 lay-leaves q st long fits = go (findOf (st .pool) (q .month)) refl
   where
@@ -95,7 +96,8 @@ lay-leaves q st long fits = go (findOf (st .pool) (q .month)) refl
           k fits;
     }
 
-piece-leaves : (floor : ℕ) (q : Piece) (st : Stored) → length (st .pool .months) ≡ blockCount → (live floor q ≡ true → q .from + length (q .rates) ≤ blockLength)
+piece-leaves : (floor : ℕ) (q : Piece) (st : Stored) → length (st .pool .months) ≡ blockCount
+    → (live floor q ≡ true → q .from + length (q .rates) ≤ blockLength)
     → Leaves (live floor q) (q .month) st (putPiece floor q st)
 unfolding putPiece
 piece-leaves floor q st long fits = go (live floor q) refl
@@ -134,7 +136,8 @@ run-leaves floor s rates st long = go (canPut s rates st)
         subst (λ (x : ℕ). Leaves (live floor (pieceIn k s rates)) x u (putPiece floor (pieceIn k s rates) u)) (piece-month k s rates)
         (piece-leaves floor (pieceIn k s rates) u e (λ x. piece-inside k s rates (met k x .1)))
 
-    go : (t : Bool) → Untouched floor (λ k. meets k s (length rates)) st (cond t (putPiece floor (pieceIn (suc m) s rates) (putPiece floor (pieceIn m s rates) st)) st)
+    go : (t : Bool) → Untouched floor (λ k. meets k s (length rates)) st
+        (cond t (putPiece floor (pieceIn (suc m) s rates) (putPiece floor (pieceIn m s rates) st)) st)
     go true =
         let u = putPiece floor (pieceIn m s rates) st in
         let w = putPiece floor (pieceIn (suc m) s rates) u in
