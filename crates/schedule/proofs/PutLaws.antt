@@ -75,7 +75,8 @@ module _ (p : Pool) (m : ℕ) (l : List ℕ) where
   open-new e = ap (λ f. openBy f m (storedOf p l)) (sym e)
 
 -- a piece laid into the block that its month has
-pub lay-is : (p : Pool) (q : Piece) (l after : List ℕ) (f : Found) → f ≡ findOf p (q .month) → after ≡ laid f (q .from) (q .rates) l → storedOf p after ≡ layPiece q (storedOf p l)
+pub lay-is : (p : Pool) (q : Piece) (l after : List ℕ) (f : Found) → f ≡ findOf p (q .month)
+    → after ≡ laid f (q .from) (q .rates) l → storedOf p after ≡ layPiece q (storedOf p l)
 unfolding layPiece
 lay-is p q l after f e h = ap (storedOf p) h ∙ ap (λ x. layBy x q (storedOf p l)) e
 
@@ -98,20 +99,23 @@ part-count s low high h k = omega arith
 pub part-room : (first low high n : ℕ) → first ≤ low → low < high → high ≤ first + blockLength → n ≤ high - low → (low - first) + n ≤ blockLength
 part-room first low high n a b c d = omega arith
 
-module _ (m s first low high : ℕ) (rates : List ℕ) (f : first ≡ firstSlot m) (l : low ≡ max s first) (h : high ≡ min (s + length rates) (firstSlot (suc m))) where
+module _ (m s first low high : ℕ) (rates : List ℕ) (f : first ≡ firstSlot m) (l : low ≡ max s first)
+    (h : high ≡ min (s + length rates) (firstSlot (suc m))) where
   piece-is : low < high → pieceIn m s rates ≡ pieceOf m (low - first) (take ((high - s) - (low - s)) (drop (low - s) rates))
   unfolding pieceIn
   piece-is k = rw (part-count s low high (omega arith) k, l, h, f)
 
   pub piece-put : (floor : ℕ) (st after : Stored) → low < high
-      → after ≡ putPiece floor (pieceOf m (low - first) (take ((high - s) - (low - s)) (drop (low - s) rates))) st → after ≡ putPiece floor (pieceIn m s rates) st
+      → after ≡ putPiece floor (pieceOf m (low - first) (take ((high - s) - (low - s)) (drop (low - s) rates))) st
+      → after ≡ putPiece floor (pieceIn m s rates) st
   piece-put floor st after k e = e ∙ ap (λ (q : Piece). putPiece floor q st) (sym (piece-is k))
 
   pub piece-fits : low < high → (low - first) + length (take ((high - s) - (low - s)) (drop (low - s) rates)) ≤ blockLength
   piece-fits k =
       let end : firstSlot (suc m) ≤ first + blockLength = omega (arith, first-slot-step m, days-range m) in
-      let count : length (take ((high - s) - (low - s)) (drop (low - s) rates)) ≤ high - low = rw (part-count s low high (omega arith) k, length-take (high - low) (drop (low - s) rates)) (omega arith) in
-      part-room first low high (length (take ((high - s) - (low - s)) (drop (low - s) rates))) (omega arith) k (omega arith) count
+      let n = length (take ((high - s) - (low - s)) (drop (low - s) rates)) in
+      let count : n ≤ high - low = rw (part-count s low high (omega arith) k, length-take (high - low) (drop (low - s) rates)) (omega arith) in
+      part-room first low high n (omega arith) k (omega arith) count
 
   pub piece-none : high ≤ low → (floor : ℕ) (st : Stored) → st ≡ putPiece floor (pieceIn m s rates) st
   unfolding pieceIn
@@ -136,5 +140,7 @@ module _ (floor s : ℕ) (rates : List ℕ) (st : Stored) where
   pub can-long : canPut s rates st ≡ true → length (st .store) ≡ storeLength
   unfolding canPut
   can-long e =
-      let w = both (eqb (length (st .store)) storeLength && leb (s + length rates) slotCount) (leb (s + length rates) (firstSlot (suc (suc (monthOfSlot s))))) e in
-      eqb-true _ _ (both (eqb (length (st .store)) storeLength) (leb (s + length rates) slotCount) (w .0) .0)
+      let long = eqb (length (st .store)) storeLength in
+      let in-time = leb (s + length rates) slotCount in
+      let w = both (long && in-time) (leb (s + length rates) (firstSlot (suc (suc (monthOfSlot s))))) e in
+      eqb-true _ _ (both long in-time (w .0) .0)

@@ -83,7 +83,8 @@ pub store-none : (p : Pool) (store : List ℕ) → true ≡ soundStore (heldBelo
 unfolding heldBelow soundStore
 store-none p store = refl
 
-pub store-end : (p : Pool) (store : List ℕ) (b : ℕ) (good : Bool) → b ≡ blockCount → good ≡ soundStore (heldBelow b p) store → length store ≡ storeLength → good ≡ storeHolds p store
+pub store-end : (p : Pool) (store : List ℕ) (b : ℕ) (good : Bool) → b ≡ blockCount → good ≡ soundStore (heldBelow b p) store
+    → length store ≡ storeLength → good ≡ storeHolds p store
 unfolding storeHolds
 store-end p store b good e f h = f ∙ rw (e, eq-eqb (length store) storeLength h)
 

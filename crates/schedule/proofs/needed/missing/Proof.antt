@@ -24,8 +24,11 @@ start-month-requires : tie.Need-start-month-requires Inv-loop μ-loop
 start-month-requires c κs = search needs
 
 -- where the loop starts
-start : (c : tie.After-start-month Inv-loop μ-loop) → c .start-month .result ≡ min (max (c .before .before .args .floor) (monthOfSlot (c .before .before .args .slot))) (endMonth (c .before .before .args .slot) (c .before .before .args .count))
-start c = c .start-month .ensures ∙ ap (min (max (c .before .before .args .floor) (monthOfSlot (c .before .before .args .slot)))) (c .before .end-month .ensures)
+start : (c : tie.After-start-month Inv-loop μ-loop) → let a = c .before .before .args in
+    c .start-month .result ≡ min (max (a .floor) (monthOfSlot (a .slot))) (endMonth (a .slot) (a .count))
+start c =
+    let a = c .before .before .args in
+    c .start-month .ensures ∙ ap (min (max (a .floor) (monthOfSlot (a .slot)))) (c .before .end-month .ensures)
 
 loop-holds : tie.Need-loop-holds Inv-loop μ-loop
 loop-holds c =
@@ -35,20 +38,26 @@ loop-holds c =
 lacks-requires : tie.Need-lacks-requires Inv-loop μ-loop
 lacks-requires c κs = search needs
 
-step : (c : tie.After-lacks Inv-loop μ-loop) → c .before .before .loop .needed + c .lacks .result
-    ≡ countBelow (c .before .before .loop .month + 1) (needs-block (c .before .before .before .before .before .args .pool) (c .before .before .before .before .before .args .floor) (c .before .before .before .before .before .args .slot) (c .before .before .before .before .before .args .count))
+-- the state before the loop
+abbrev ready : tie.After-lacks Inv-loop μ-loop → tie.After-start-month Inv-loop μ-loop
+ready c = c .before .before .before
+
+-- one month more is counted
+step : (c : tie.After-lacks Inv-loop μ-loop) → let a = ready c .before .before .args in let l = c .before .before .loop in
+    l .needed + c .lacks .result ≡ countBelow (l .month + 1) (needs-block (a .pool) (a .floor) (a .slot) (a .count))
 step c =
-    let a = c .before .before .before .before .before .args in
+    let a = ready c .before .before .args in
     let l = c .before .before .loop in
-    let h : l .month < endMonth (a .slot) (a .count) = omega (arith, c .before .loop-test .taken, c .before .before .before .before .end-month .ensures) in
-    let k : min (max (a .floor) (monthOfSlot (a .slot))) (endMonth (a .slot) (a .count)) ≤ l .month = omega (arith, start (c .before .before .before), l .inv .0) in
+    let end = endMonth (a .slot) (a .count) in
+    let h : l .month < end = omega (arith, c .before .loop-test .taken, ready c .before .end-month .ensures) in
+    let k : min (max (a .floor) (monthOfSlot (a .slot))) end ≤ l .month = omega (arith, start (ready c), l .inv .0) in
     ap (λ n. n + c .lacks .result) (l .inv .2)
     ∙ ap (λ n. countBelow (l .month) (needs-block (a .pool) (a .floor) (a .slot) (a .count)) + n) (c .lacks .ensures)
     ∙ sym (missing-step (a .pool) (a .floor) (a .slot) (a .count) (l .month) k h)
 
 add-needed : tie.Need-add-needed Inv-loop μ-loop
 add-needed c =
-    let a = c .before .before .before .before .before .args in
+    let a = ready c .before .before .args in
     let l = c .before .before .loop in
     omega (arith, step c, count-most (l .month + 1) (needs-block (a .pool) (a .floor) (a .slot) (a .count)), l .inv .1)
 

@@ -43,7 +43,11 @@ loop-again c =
     let rates = now (t .before .before .before .before .args .rates) in
     let h = t .loop-test .taken in
     let same = bytes-length rates in
-    (omega arith, simp length-set (l .inv .1), copy-step (l .to) (rateBytes rates) (l .i) _ (omega arith) (l .inv .1 ∙ sym same) (c .byte-of .ensures ∙ sym (bytes-at rates (l .i) 0 h)) (l .inv .2))
+    let byte = c .byte-of .ensures ∙ sym (bytes-at rates (l .i) 0 h) in (
+      omega arith,
+      simp length-set (l .inv .1),
+      copy-step (l .to) (rateBytes rates) (l .i) _ (omega arith) (l .inv .1 ∙ sym same) byte (l .inv .2),
+    )
 
 same-length : tie.Need-same-length Inv-loop μ-loop
 same-length c = c .before .loop .inv .1 ∙ sym (c .before .before .before .before .pre)

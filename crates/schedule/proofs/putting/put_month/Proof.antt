@@ -1,5 +1,5 @@
 -- `putting::put_month` meets its contract.
-use Prim.Native.Nat.{suc, _+_, _-_, min}
+use Prim.Native.Nat.{suc, _+_, _-_, min, max}
 use mathlib.Core.Path.{_≡_, ap, _∙_}
 use native.Mathlib.Numerals.{add-one}
 use denote.Ref.{now}
@@ -14,9 +14,23 @@ use Rattle.schedule.proofs.putting.put_month.Tie as tie
 abbrev start : tie.After-lesser → tie.Start
 start c = c .before .before .before .before .before .before
 
+-- the part begins at the run's slot or the month's first one
+abbrev after-first : tie.After-lesser → tie.After-first-slot
+after-first c = c .before .before .before
+
+first-is : (c : tie.After-lesser) → after-first c .first-slot .result ≡ firstSlot (start c .args .month)
+first-is c = after-first c .first-slot .ensures
+
+low-is : (c : tie.After-lesser) → c .before .before .greater .result ≡ max (start c .args .slot) (after-first c .first-slot .result)
+low-is c = c .before .before .greater .ensures
+
 -- the month's first slot after this one ends the part
-high-is : (c : tie.After-lesser) → c .lesser .result ≡ min (start c .args .slot + length (now (start c .args .rates))) (firstSlot (suc (start c .args .month)))
-high-is c = c .lesser .ensures ∙ ap (min (start c .args .slot + length (now (start c .args .rates)))) (c .before .first-slot2 .ensures ∙ ap firstSlot (add-one (start c .args .month)))
+high-is : (c : tie.After-lesser) → let a = start c .args in
+    c .lesser .result ≡ min (a .slot + length (now (a .rates))) (firstSlot (suc (a .month)))
+high-is c =
+    let a = start c .args in
+    let next = c .before .first-slot2 .ensures ∙ ap firstSlot (add-one (a .month)) in
+    c .lesser .ensures ∙ ap (min (a .slot + length (now (a .rates)))) next
 
 first-slot-requires : tie.Need-first-slot-requires
 first-slot-requires c κs = search needs
@@ -62,24 +76,30 @@ part-put-piece-end c = search needs
 
 put-piece-requires : tie.Need-put-piece-requires
 put-piece-requires c κs =
-    let k = c .before .before .before in
+    let some = c .before .before in
+    let k = some .before in
     let a = start k .args in
-    (start k .pre .0, piece-fits (a .month) (a .slot) _ _ _ (now (a .rates)) (k .before .before .before .first-slot .ensures) (k .before .before .greater .ensures) (high-is k) (c .before .before .if1 .taken))
+    (start k .pre .0, piece-fits (a .month) (a .slot) _ _ _ (now (a .rates)) (first-is k) (low-is k) (high-is k) (some .if1 .taken))
 
 same-length : tie.Need-same-length
 same-length c = search needs
 
 returns : tie.Need-returns
 returns c =
-    let k = c .before .before .before .before .before .before in
+    let put = c .before .before in
+    let some = put .before .before .before in
+    let k = some .before in
     let a = start k .args in
-    piece-put (a .month) (a .slot) _ _ _ (now (a .rates)) (k .before .before .before .first-slot .ensures) (k .before .before .greater .ensures) (high-is k) (a .floor) (storedOf (a .pool) (now (a .store))) _ (c .before .before .before .before .before .if1 .taken) (c .before .before .put-piece .ensures)
+    let held = storedOf (a .pool) (now (a .store)) in
+    piece-put (a .month) (a .slot) _ _ _ (now (a .rates)) (first-is k) (low-is k) (high-is k) (a .floor) held _
+    (some .if1 .taken) (put .put-piece .ensures)
 
 returns-2 : tie.Need-returns-2
 returns-2 c =
     let k = c .before in
     let a = start k .args in
-    piece-none (a .month) (a .slot) _ _ _ (now (a .rates)) (k .before .before .before .first-slot .ensures) (k .before .before .greater .ensures) (high-is k) (c .if1 .left) (a .floor) (storedOf (a .pool) (now (a .store)))
+    let held = storedOf (a .pool) (now (a .store)) in
+    piece-none (a .month) (a .slot) _ _ _ (now (a .rates)) (first-is k) (low-is k) (high-is k) (c .if1 .left) (a .floor) held
 
 pub put-month-spec : {M : Type 1} → statement M
 put-month-spec =

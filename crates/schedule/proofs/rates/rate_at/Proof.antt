@@ -1,6 +1,6 @@
 -- `rates::rate_at` meets its contract.
 use Prim.Native.Nat.{ℕ, _≤_, _<_, _-_}
-use mathlib.Core.Path.{_≡_, sym, ap, _∙_}
+use mathlib.Core.Path.{_≡_, sym, ap, subst, _∙_}
 use native.Mathlib.Omega.{arith}
 use denote.Ref.{now}
 use lib.ListN.{getD}
@@ -27,18 +27,28 @@ enum-known-b c = search needs
 first-slot-requires : tie.Need-first-slot-requires
 first-slot-requires c κs = search needs
 
+-- the states before: the slot's month has a block, the month is known, at entry
+abbrev held : tie.After-first-slot → tie.After-b
+held c = c .before .before
+
+abbrev month : tie.After-first-slot → tie.After-month-of-slot
+month c = held c .before .before .before
+
+abbrev start : tie.After-first-slot → tie.Start
+start c = month c .before .before
+
 -- the first slot of the slot's month does not lie after the slot
-from : (c : tie.After-first-slot) → c .first-slot .result ≤ c .before .before .before .before .before .before .before .args .slot
+from : (c : tie.After-first-slot) → c .first-slot .result ≤ start c .args .slot
 from c =
-    let s = c .before .before .before .before .before .before .before .args .slot in
-    let e : c .first-slot .result ≡ firstSlot (monthOfSlot s) = c .first-slot .ensures ∙ ap firstSlot (c .before .before .before .before .before .month-of-slot .ensures) in
-    rw e (slot-from s)
+    let s = start c .args .slot in
+    let e : c .first-slot .result ≡ firstSlot (monthOfSlot s) = c .first-slot .ensures ∙ ap firstSlot (month c .month-of-slot .ensures) in
+    subst (λ (x : ℕ). x ≤ s) (sym e) (slot-from s)
 
 -- the block that was found
-at : (c : tie.After-first-slot) → findOf (c .before .before .before .before .before .before .before .args .pool) (c .before .before .before .before .before .month-of-slot .result) ≡ At (c .before .before .b .given .0 .0)
-at c = sym (c .before .before .before .before .find .ensures) ∙ c .before .before .b .given .1
+at : (c : tie.After-first-slot) → findOf (start c .args .pool) (month c .month-of-slot .result) ≡ At (held c .b .given .0 .0)
+at c = sym (held c .before .before .find .ensures) ∙ held c .b .given .1
 
-below : (c : tie.After-first-slot) → c .before .before .b .given .0 .0 < blockCount
+below : (c : tie.After-first-slot) → held c .b .given .0 .0 < blockCount
 below c = find-below _ _ _ (at c)
 
 sub-i : tie.Need-sub-i
@@ -51,7 +61,7 @@ mul-byte-at : tie.Need-mul-byte-at
 mul-byte-at c = omega (arith, below c)
 
 add-byte-at : tie.Need-add-byte-at
-add-byte-at c = omega (arith, below c, c .before .before .before .before .before .before .before .fits .slot)
+add-byte-at c = omega (arith, below c, start c .fits .slot)
 
 byte-at-requires : tie.Need-byte-at-requires
 byte-at-requires c κs = search needs
@@ -64,19 +74,24 @@ enum-told c = search needs
 
 returns : tie.Need-returns
 returns c =
-    let a = c .before .before .before .before .before .before .before .before .before .args in
-    let m = c .before .before .before .before .before .before .before .month-of-slot .ensures in
-    let f = c .before .before .first-slot .ensures in
+    let k = c .before .before in
+    let a = start k .args in
+    let store = now (a .store) in
+    let m = month k .month-of-slot .ensures in
+    let f = k .first-slot .ensures in
+    let b = held k .b .given .0 .0 in
     c .rate-of .ensures
     ∙ ap (λ (x : ℕ). rateOption (fromByte x)) (c .before .byte-at .ensures)
-    ∙ ap (λ (x : ℕ). rateOption (fromByte (getD (now (a .store)) (place (c .before .before .before .before .b .given .0 .0) (a .slot - x)) noRate))) (f ∙ ap firstSlot m)
-    ∙ ap rateOption (sym (rate-found (a .pool) (now (a .store)) (a .slot) (c .before .before .before .before .b .given .0 .0) (sym (ap (findOf (a .pool)) m) ∙ at (c .before .before))))
+    ∙ ap (λ (x : ℕ). rateOption (fromByte (getD store (place b (a .slot - x)) noRate))) (f ∙ ap firstSlot m)
+    ∙ ap rateOption (sym (rate-found (a .pool) store (a .slot) b (sym (ap (findOf (a .pool)) m) ∙ at k)))
 
 returns-2 : tie.Need-returns-2
 returns-2 c =
-    let a = c .before .before .before .before .before .args in
-    let m = c .before .before .before .month-of-slot .ensures in
-    rate-nothing (a .pool) (now (a .store)) (a .slot) (sym (ap (findOf (a .pool)) m) ∙ sym (c .before .before .find .ensures) ∙ c .enum-told .given .1)
+    let found = c .before .before in
+    let known = found .before in
+    let a = known .before .before .args in
+    let m = known .month-of-slot .ensures in
+    rate-nothing (a .pool) (now (a .store)) (a .slot) (sym (ap (findOf (a .pool)) m) ∙ sym (found .find .ensures) ∙ c .enum-told .given .1)
 
 pub rate-at-spec : {M : Type 1} → statement M
 rate-at-spec =

@@ -25,7 +25,9 @@ mul-end : tie.Need-mul-end
 mul-end c = omega (arith, within c)
 
 slice-aggregate-all-lawful : tie.Need-slice-aggregate-all-lawful
-slice-aggregate-all-lawful c = sym (length-take-le (slotsOfDay * c .before .days-of-month .result) (now (c .before .before .before .args .block)) (within (c .before)))
+slice-aggregate-all-lawful c =
+    let d = c .before in
+    sym (length-take-le (slotsOfDay * d .days-of-month .result) (now (d .before .before .args .block)) (within d))
 
 all-lawful-requires : tie.Need-all-lawful-requires
 all-lawful-requires c κs = search needs
@@ -44,9 +46,11 @@ all-blank-requires c κs = search needs
 
 returns : tie.Need-returns
 returns c =
-    let d = c .before .before .before .before in
+    let lawful = c .before .before in
+    let d = lawful .before .before in
     let a = d .before .before .args in
-    block-parts (a .month) (slotsOfDay * d .days-of-month .result) (now (a .block)) _ _ (omega (arith, d .days-of-month .ensures)) (c .before .before .all-lawful .ensures) (c .all-blank .ensures)
+    block-parts (a .month) (slotsOfDay * d .days-of-month .result) (now (a .block)) _ _ (omega (arith, d .days-of-month .ensures))
+    (lawful .all-lawful .ensures) (c .all-blank .ensures)
 
 pub block-holds-spec : {M : Type 1} → statement M
 block-holds-spec =
