@@ -201,7 +201,8 @@ tick-drops store t u = go (u .clock)
 -- ---- every call
 
 -- by the rows: a refused call leaves the unit
-done-moves : (o : Option Cause) (u v : Unit) → Moves (u .pool) (v .pool) (v .floor) → Moves (u .pool) (doneBy o v u .unit .pool) (doneBy o v u .unit .floor)
+done-moves : (o : Option Cause) (u v : Unit) → Moves (u .pool) (v .pool) (v .floor)
+    → Moves (u .pool) (doneBy o v u .unit .pool) (doneBy o v u .unit .floor)
 done-moves none u v h = h
 done-moves (some c) u v h = stays (u .pool) (u .floor)
 
@@ -209,7 +210,8 @@ taken-moves : (o : Outcome) (store : List ℕ) (u : Unit) → length (u .pool .m
 unfolding withFile
 taken-moves (refuse c) store u long = stays (u .pool) (u .floor)
 taken-moves (file f) store u long =
-    adds-moves (u .pool) (withFile f store u .pool) (u .floor) (records-add (u .floor) (recordsIn (f .body)) (record { pool = u .pool; store = store }) long)
+    adds-moves (u .pool) (withFile f store u .pool) (u .floor)
+    (records-add (u .floor) (recordsIn (f .body)) (record { pool = u .pool; store = store }) long)
 
 pub step-moves : (c : Call) (s : State) → length (s .unit .pool .months) ≡ blockCount → Moves (s .unit .pool) (step c s .1 .unit .pool) (step c s .1 .unit .floor)
 unfolding step tickOf lostOf takeOf failureOf lost withFailure

@@ -103,7 +103,8 @@ module _ (M : Machine) (low : M .floor ≤ lastMonth) (m i : ℕ) where
   unfolding isHeld
   rate-none e = rate-at ∙ go (leb (M .floor) m) (ltb i (slotsOfMonth m)) refl e
     where
-      go : (a b : Bool) → ltb i (slotsOfMonth m) ≡ b → a && anyFile m (M .files) ≡ false → cond (a && b) (lastRate (firstSlot m + i) (M .files) none) none ≡ none
+      go : (a b : Bool) → ltb i (slotsOfMonth m) ≡ b → a && anyFile m (M .files) ≡ false
+          → cond (a && b) (lastRate (firstSlot m + i) (M .files) none) none ≡ none
       go true true q z = last-none m (firstSlot m + i) (omega arith) (omega (arith, first-slot-step m, ltb-true i (slotsOfMonth m) q)) (M .files) none z
       go true false q z = refl
       go false b q z = refl

@@ -80,15 +80,18 @@ in-slot-requires-3 c κs = search needs
 
 returns-2 : tie.Need-returns-2
 returns-2 c =
-    let b = c .before .before .before .before .before .before in
-    let a = b .before .args in
+    let whole = c .before in
+    let rest = whole .before in
+    let slots = rest .before .before in
+    let start = slots .before .before .before in
+    let a = start .args in
     let s = settingsOf (a .plant) in
     let store = now (a .store) in
-    let first = c .before .before .before .before .before .slot-of in
-    let last = c .before .before .before .before .slot-of2 in
-    over-parts s (a .pool) store (a .clock) (a .until) (a .command) (b .before .pre .later) (first .result) (last .result) _ _ _ _ _
-    (c .before .before .in-slot2 .ensures)
-    (c .before .between .ensures)
+    let first = slots .before .slot-of in
+    let last = slots .slot-of2 in
+    over-parts s (a .pool) store (a .clock) (a .until) (a .command) (start .pre .later) (first .result) (last .result) _ _ _ _ _
+    (rest .in-slot2 .ensures)
+    (whole .between .ensures)
     (c .in-slot3 .ensures)
     (first .ensures)
     (last .ensures)

@@ -1,3 +1,4 @@
+-- `unit::fresh` meets its contract.
 use Rattle.unit.proofs.CallLaws.{fresh-is}
 use borrow.Author.Needs.{needs}
 use Rattle.unit.proofs.fresh.Statement.{statement}

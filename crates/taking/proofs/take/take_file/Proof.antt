@@ -132,17 +132,21 @@ returns-4 c =
     let r = take-full _ _ _ _ (long (e .before)) (good e) _ set _ (got s) _ _ free needed (c .before .if3 .taken) in
     (c .refuse5 .ensures ∙ r .0, r .1)
 
+-- there is room: from here back to what was read
+abbrev at-summary : tie.Else3 → tie.After-summary
+at-summary c = c .before .before .before .before
+
 sub-put-records : tie.Need-sub-put-records
-sub-put-records c = read-room _ _ _ _ (got (c .before .before .before .before))
+sub-put-records c = read-room _ _ _ _ (got (at-summary c))
 
 part-put-records-start : tie.Need-part-put-records-start
-part-put-records-start c = read-room _ _ _ _ (got (c .before .before .before .before))
+part-put-records-start c = read-room _ _ _ _ (got (at-summary c))
 
 part-put-records-end : tie.Need-part-put-records-end
 part-put-records-end c = search needs
 
 put-records-requires : tie.Need-put-records-requires
-put-records-requires c κs = read-following _ _ _ _ (got (c .before .before .before .before .before .before))
+put-records-requires c κs = read-following _ _ _ _ (got (at-summary (c .before .before)))
 
 take-requests-requires : tie.Need-take-requests-requires
 take-requests-requires c κs = search needs
@@ -171,7 +175,7 @@ returns-6 c =
     let room = put .before .before .before in
     let counted = room .before in
     let asked = counted .before in
-    let s = asked .before .before in
+    let s = at-summary room in
     let e = at-sound (at-read s) in
     let set = at-clock (at-read s) .clock .given .1 in
     let free = counted .free-count .ensures in

@@ -1,3 +1,4 @@
+-- `unit::Clock::sound` meets its contract.
 use borrow.Author.Needs.{needs}
 use Rattle.unit.proofs.Clock.sound.Statement.{statement}
 use Rattle.unit.proofs.Clock.sound.Tie as tie

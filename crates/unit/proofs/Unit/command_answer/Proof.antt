@@ -1,3 +1,4 @@
+-- `unit::Unit::command_answer` meets its contract.
 use mathlib.Core.Path.{sym, _∙_}
 use borrow.Author.Tests.{not-true, not-false}
 use Rattle.unit.proofs.CallLaws.{command-unsound, command-done}

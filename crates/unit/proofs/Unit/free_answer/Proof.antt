@@ -1,3 +1,4 @@
+-- `unit::Unit::free_answer` meets its contract.
 use mathlib.Core.Path.{sym, _∙_}
 use borrow.Author.Tests.{not-true, not-false}
 use Rattle.unit.proofs.CallLaws.{free-unsound, free-done}
@@ -16,7 +17,8 @@ free-count-requires c κs = search needs
 
 returns-2 : tie.Need-returns-2
 returns-2 c =
-    rw (c .free-count .ensures) (sym (free-done _ (sym (c .before .before .before .sound .ensures) ∙ not-false _ (c .before .before .if1 .left))))
+    let e = c .before .before in
+    rw (c .free-count .ensures) (sym (free-done _ (sym (e .before .sound .ensures) ∙ not-false _ (e .if1 .left))))
 
 pub free-answer-spec : {M : Type 1} → statement M
 free-answer-spec = tie.close (tie.spec sound-requires returns free-count-requires returns-2)

@@ -1,3 +1,4 @@
+-- `unit::Unit::install` meets its contract.
 use Rattle.unit.specs.Values.{installedUnit}
 use borrow.Author.Needs.{needs}
 use Rattle.unit.proofs.Unit.install.Statement.{statement}
