@@ -206,14 +206,16 @@ done-moves : (o : Option Cause) (u v : Unit) → Moves (u .pool) (v .pool) (v .f
 done-moves none u v h = h
 done-moves (some c) u v h = stays (u .pool) (u .floor)
 
-taken-moves : (o : Outcome) (store : List ℕ) (u : Unit) → length (u .pool .months) ≡ blockCount → Moves (u .pool) (taken o store u .pool) (taken o store u .floor)
+taken-moves : (o : Outcome) (store : List ℕ) (u : Unit) → length (u .pool .months) ≡ blockCount
+    → Moves (u .pool) (taken o store u .pool) (taken o store u .floor)
 unfolding withFile
 taken-moves (refuse c) store u long = stays (u .pool) (u .floor)
 taken-moves (file f) store u long =
     adds-moves (u .pool) (withFile f store u .pool) (u .floor)
     (records-add (u .floor) (recordsIn (f .body)) (record { pool = u .pool; store = store }) long)
 
-pub step-moves : (c : Call) (s : State) → length (s .unit .pool .months) ≡ blockCount → Moves (s .unit .pool) (step c s .1 .unit .pool) (step c s .1 .unit .floor)
+pub step-moves : (c : Call) (s : State) → length (s .unit .pool .months) ≡ blockCount
+    → Moves (s .unit .pool) (step c s .1 .unit .pool) (step c s .1 .unit .floor)
 unfolding step tickOf lostOf takeOf failureOf lost withFailure
 step-moves (tick t) s long =
     done-moves (firstOf (rowsOf (tick t) s)) (s .unit) (ticked (s .store) t (s .unit))
