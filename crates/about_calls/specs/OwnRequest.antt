@@ -1,4 +1,5 @@
 -- The request of a unit by the rows of 01's table: the lowest that applies is its refusal, and where none applies it writes the request's bytes.
+-- `requestOf` is what the contracts of `Unit::request` and, by ExportsSay, of `jag_request` say, with the buffer's bytes.
 use Prim.Native.Nat.{ℕ}
 use mathlib.Core.Path.{_≡_}
 use mathlib.Core.Bool.{false, not}

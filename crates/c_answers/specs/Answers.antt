@@ -1,4 +1,4 @@
--- The other answers as C gets them: 0 or a cause's number, and numbers that are 0 where it is refused.
+-- The answers of questions, of reading and of writing as C gets them: 0 or a cause's number, and numbers that are 0 where it is refused.
 use Prim.Native.Nat.{ℕ}
 use mathlib.Core.List.{List}
 use lib.ListN.{length}

@@ -1,4 +1,5 @@
-// The answers of questions, of reading and of writing, as C gets them: 0 or a cause's number, and numbers that are 0 where it is refused.
+// The answers of questions, of reading, of writing and of the error file as C gets them: 0 or a cause's number, and numbers that are 0 where it is
+// refused.
 ghost use mathlib.Core.Path.{_≡_};
 ghost use Rattle.c_answers.specs.Answers.{dueNumbers, ceilingNumbers, commandNumber, blocksNumber, writtenNumbers, noFile, fileNumbers};
 use rules::Ceiling;
@@ -57,6 +58,7 @@ pub struct ErrorAnswer {
     pub code: u32,
 }
 
+// What is due.
 pub fn due_answer(due: Due) -> DueAnswer
     ensures { λ r. ⌜ r ≡ dueNumbers due ⌝ }
 {
@@ -84,6 +86,7 @@ pub fn due_answer(due: Due) -> DueAnswer
     }
 }
 
+// The ceiling of a slot.
 pub fn ceiling_answer(ceiling: Ceiling) -> CeilingAnswer
     ensures { λ r. ⌜ r ≡ ceilingNumbers ceiling ⌝ }
 {
@@ -109,6 +112,7 @@ pub fn ceiling_answer(ceiling: Ceiling) -> CeilingAnswer
     }
 }
 
+// The command, in parts.
 pub fn command_number(command: Command) -> Number
     ensures { λ r. ⌜ r ≡ commandNumber command ⌝ }
 {
@@ -124,6 +128,7 @@ pub fn command_number(command: Command) -> Number
     }
 }
 
+// How many blocks are free.
 pub fn blocks_number(free: FreeBlocks) -> Number
     ensures { λ r. ⌜ r ≡ blocksNumber free ⌝ }
 {
@@ -136,6 +141,7 @@ pub fn blocks_number(free: FreeBlocks) -> Number
     }
 }
 
+// How many bytes were written.
 pub fn written_bytes(written: Written) -> WrittenBytes
     ensures { λ r. ⌜ r ≡ writtenNumbers written ⌝ }
 {
@@ -167,6 +173,7 @@ fn no_file(cause: u32) -> FileAnswer
     }
 }
 
+// What a file says.
 pub fn file_answer(reading: Reading) -> FileAnswer
     ensures { λ r. ⌜ r ≡ fileNumbers reading ⌝ }
 {

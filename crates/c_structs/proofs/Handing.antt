@@ -1,7 +1,7 @@
 -- The struct that C holds: proofs of what specs/Handing says.
 use Prim.Native.Nat.{ℕ}
 use mathlib.Core.Path.{_≡_, refl, ap, sym, _∙_}
-use mathlib.Core.Bool.{Bool, true, false, cond, _&&_, false≢true}
+use mathlib.Core.Bool.{Bool, true, false, _&&_, false≢true}
 use lib.Dec.{eqb}
 use borrow.Author.Tests.{eqb-true}
 use Rattle.rules.specs.Store.{soundClock}
@@ -12,7 +12,6 @@ use Rattle.plant.specs.declared.Settings.{Settings as Kept}
 use Rattle.plant.proofs.Laws.{valid-facts, in-range-kept, narrowed-kept, kept-whole}
 use Rattle.unit.specs.Values.{clockOf, isSound}
 use Rattle.unit.specs.declared.Unit.{Unit}
-use Rattle.unit.specs.declared.Done.{Done}
 use Rattle.unit.specs.declared.Clock.{Clock}
 use Rattle.unit.specs.declared.Clock.the-variants.{Unset, At}
 use Rattle.unit.proofs.SoundParts.{sound-parts}

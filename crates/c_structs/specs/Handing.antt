@@ -1,6 +1,5 @@
 -- What the struct that C holds is worth: a unit goes into it and comes back as it was, a struct that is no unit's is refused as unsound, and a
 -- refusal hands back the struct that came in.
-use Prim.Native.Nat.{ℕ}
 use mathlib.Core.Path.{_≡_}
 use mathlib.Core.Bool.{true, false}
 use Rattle.unit.specs.Values.{isSound}

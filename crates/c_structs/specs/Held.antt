@@ -1,6 +1,6 @@
 -- The unit as C holds it: which unit a struct stands for, and what a call hands back.
 use Prim.Native.Nat.{ℕ}
-use mathlib.Core.Bool.{Bool, true, false, cond, _&&_}
+use mathlib.Core.Bool.{Bool, true, cond, _&&_}
 use lib.Dec.{eqb}
 use Rattle.rules.specs.Causes.{numberOf}
 use Rattle.rules.specs.declared.Answer.{Answer}

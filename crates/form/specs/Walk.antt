@@ -33,7 +33,7 @@ pub record Whole (f : Format) (s : List ℕ) : Type 0 where
   pub head : allDigits (part s 0 countPlace) ≡ true
   pub tail : allDigits (part s (ratesPlace + ratesOf s) (tailDigits f)) ≡ true
 
--- n and z are the rate count and the length of the record at the front of s, as its digits say them
+-- n and z are the rate count and the length of the record at the front of s, as its digits say them; five bytes of 255 say 2,833,305
 pub record Sized (f : Format) (s : List ℕ) (n z : ℕ) : Type 0 where
   pub rates : n ≡ countAt s
   pub size : z ≡ ratesPlace + n + tailDigits f

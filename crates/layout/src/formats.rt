@@ -2,6 +2,7 @@
 ghost use mathlib.Core.Path.{_≡_};
 ghost use Prim.Native.Nat.{_+_, _*_, _≤_};
 ghost use Rattle.rules.specs.Body.{countOf, mostRates, flagDigits, nextDigits, tailDigits, isSchedule};
+ghost use Rattle.layout.specs.Places.{ratesPlace};
 use crate::places::CHECKSUM_DIGITS;
 use crate::places::FLAG_DIGITS;
 use crate::places::NEXT_DIGITS;
@@ -34,7 +35,7 @@ pub fn record_count(format: Format) -> u32
     }
 }
 
-// '203: n 0 to 336'; otherwise what 5 digits can say.
+// '203: n 0 to 336'; for 201 and 202 what 5 digits can say; a 301 has none.
 pub fn most_rates(format: Format) -> u32
     ensures { λ r. ⌜ r ≡ mostRates format ⌝ }
 {
@@ -82,7 +83,7 @@ pub fn tail_digits(format: Format) -> usize
 
 // The bytes of the format's records beside their rates.
 pub fn fixed_bytes(format: Format) -> usize
-    ensures exact { λ r. ⌜ r ≡ countOf format * (53 + tailDigits format) ⌝ }
+    ensures exact { λ r. ⌜ r ≡ countOf format * (ratesPlace + tailDigits format) ⌝ }
     ensures bound { λ r. ⌜ r ≤ 715 ⌝ }
 {
     record_count(format) as usize * (RATES + tail_digits(format))

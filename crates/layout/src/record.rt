@@ -20,7 +20,7 @@ fn wide(x: u8) -> u32
     x as u32
 }
 
-// The rate count of the record at the front of `s`; 0 of fewer bytes than stand before its rates.
+// The rate count of the record at the front of `s`; 0 of fewer bytes than stand before its rates. Five bytes of 255 say 2,833,305.
 pub fn rate_count(s: &[u8]) -> u32
     ensures exact { λ r. ⌜ r ≡ countAt (now (s .entry)) ⌝ }
     ensures bound { λ r. ⌜ r ≤ 2833305 ⌝ }

@@ -1,14 +1,15 @@
--- The rows of the table on small files: which is the first that applies. A row with another's test, or in another's place, is told here.
+-- The rows of reading, of taking, of the request and of install on small inputs: which is the first that applies, also where several do.
+-- The writer's rows are not tried here.
 use Prim.Native.Nat.{ℕ, _+_}
 use mathlib.Core.Path.{_≡_, refl}
 use mathlib.Core.Bool.{true}
-use mathlib.Core.List.{List, [], _∷_, _++_}
+use mathlib.Core.List.{List, [], _∷_}
 use mathlib.Core.Option.{Option, none, some}
 use lib.ListN.{replicate}
 use Rattle.rules.specs.Digits.{allAtMost, allAscii, valueFrom, decimal, sameBytes}
 use Rattle.rules.specs.Calendar.{exists, secondsOf, startSlot, daysOfMonth, firstDay}
 use Rattle.rules.specs.Plant.{weightedSum, checkDigit, plantId, allHex, macAddress, validSettings}
-use Rattle.rules.specs.Name.{Name, formatOf, segmentFits, lawfulName, nameShape, parseName, encodeName, anySegment}
+use Rattle.rules.specs.Name.{formatOf, segmentFits, lawfulName, nameShape, parseName, encodeName, anySegment}
 use Rattle.rules.specs.Body.{schedule, ratesOf, sizeOf, recordShape, recordAt, parseRecords, counted, parseBody, encodeRecord, encodeRecords, encodeBody, every}
 use Rattle.rules.specs.File.{wholeMonth, monthsFrom, updateDates, datesHold, ratesHold, sum, checksumOf, checksumsHold, plantsHold}
 use Rattle.rules.specs.Causes.{numberOf}
@@ -63,13 +64,17 @@ rowTable =
     ∷ line 11 (judged (readRows none (updateName 5) (update 30 101 1 5))) 11
     ∷ line 12 (judged (readRows none (updateName 5) (update 30 100 1 4))) 12
     ∷ line 13 (judged (readRows none (updateName 5) (update 30 100 0 4))) 13
-    ∷ line 7 (judged (takenRows (plantX 5) (nameFor F301 (replicate 4 8) 5) [])) 7
+    ∷ line 7 (judged (takenRows (plantX 4) (nameFor F301 (replicate 4 8) 5) [])) 7
     ∷ line 9 (judged (readRows none (nameFor F301 (replicate 4 8) 5) [])) 9
     ∷ line 8 (judged (takenRows (plantX 4) (updateName 5) (update 30 100 0 5))) 8
     ∷ line 0 (judged (takenRows (plantX 5) (updateName 5) (update 30 100 0 5))) 0
     ∷ line 15 (judged (requestRows (plantX 5) mac (replicate 4 48) 83)) 15
     ∷ line 0 (judged (requestRows (plantX 5) mac (replicate 4 48) 84)) 0
-    ∷ line 7 (judged (requestRows (plantX 5) mac (replicate 3 48) 83)) 7
+    ∷ line 7 (judged (requestRows (plantX 5) mac (replicate 3 48) 82)) 7
+    ∷ line 2 (judged (requestRows (plantX 5) [] (replicate 3 48) 84)) 2
+    ∷ line 1 (judged (requestRows (plantX 4) [] (replicate 4 48) 84)) 1
+    ∷ line 0 (judged (installRows (plantX 5) mac settings)) 0
+    ∷ line 2 (judged (installRows (plantX 5) mac (record { panel = 4000; inverter = 5500; minutes = 4 }))) 2
     ∷ line 2 (judged (installRows (plantX 5) [] settings)) 2
     ∷ line 1 (judged (installRows (plantX 4) [] settings)) 1
     ∷ []

@@ -1,8 +1,8 @@
 -- The held months' rates: what the pool and the store say of a slot, and what they are after a run of rates is put into them.
 use Prim.Native.Nat.{ℕ, suc, _+_, _-_, _*_, min, max}
-use mathlib.Core.Bool.{Bool, true, false, cond, not, _&&_}
-use mathlib.Core.List.{List, [], _∷_}
-use mathlib.Core.Option.{Option, none, some}
+use mathlib.Core.Bool.{Bool, true, false, cond, _&&_}
+use mathlib.Core.List.{List}
+use mathlib.Core.Option.{Option, none}
 use lib.Dec.{leb, ltb, eqb}
 use lib.ListN.{length, getD, take, drop, replicate}
 use lib.Seq.{sets}

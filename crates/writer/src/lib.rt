@@ -69,7 +69,7 @@ fn write_update(
 }
 
 // The body of these fields in the buffer's first bytes, and its length; or a cause, with the buffer as it was.
-// 'Bytes past its end stay, and on refusal all of them.' For 201 and 202 the flag and the next access are not looked at.
+// 'Bytes past its end stay'; on refusal all of them do. For 201 and 202 the flag and the next access are not looked at.
 pub fn write_body(
     format: u32,
     plant: &[u8],

@@ -5,7 +5,7 @@ ghost use lib.ListN.{length};
 ghost use Rattle.rules.specs.Digits.{decimal};
 ghost use Rattle.digits.specs.Placed.{placed};
 
-// A number as `width` digits, the last one first.
+// A number as `width` digits, written from the last one on.
 pub(crate) fn put_number(out: &mut [u8], at: usize, width: usize, number: u32)
     requires { ⌜ at + width ≤ length (now out) ⌝ }
     ensures { λ _. ⌜ now (out .exit) ≡ placed (now (out .entry)) at (decimal width number) ⌝ }
