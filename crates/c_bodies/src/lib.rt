@@ -16,6 +16,7 @@ enum FormatFound {
     Unknown,
 }
 
+// The format of a number, where it is one's.
 fn format_of(number: u32) -> FormatFound
     ensures { λ r. ⌜ r ≡ foundOf (formatOf number) ⌝ }
 {
@@ -85,6 +86,7 @@ fn no_places(cause: u32) -> RecordPlaces
     }
 }
 
+// The places of a record, in numbers for C.
 pub fn record_places(located: Located) -> RecordPlaces
     ensures { λ r. ⌜ r ≡ placesNumbers located ⌝ }
 {

@@ -23,7 +23,7 @@ const LARGEST_COUNT: u32 = 99999;
 pub const LONGEST_BODY: usize = RECORDS
     + YEARLY_RECORDS as usize * (RATES + LARGEST_COUNT as usize + CHECKSUM_DIGITS);
 
-// '201: 13 records', '202: 1 record', '203: 1 record'.
+// '201: 13 records', '202: 1 record', '203: 1 record', '301: count 1'.
 pub fn record_count(format: Format) -> u32
     ensures { λ r. ⌜ r ≡ countOf format ⌝ }
 {
