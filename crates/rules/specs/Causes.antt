@@ -31,6 +31,7 @@ numberOf Cause.RecordPlant = 13  -- record's plant ID isn't the name's
 numberOf Cause.Full = 14  -- more than 16 months would be held
 numberOf Cause.Buffer = 15  -- output longer than the lent buffer
 numberOf Cause.ErrorFile = 16  -- error file breaks its form
+numberOf Cause.Response = 17  -- response breaks its form (02, §1)
 
 -- an answer as 01 gives it: the machine answers in these values
 pub data Reply : Type 0 where

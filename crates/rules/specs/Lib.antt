@@ -4,6 +4,7 @@ pub mod Plant
 pub mod Name
 pub mod Body
 pub mod File
+pub mod Response
 pub mod Store
 pub mod Machine
 pub mod Causes

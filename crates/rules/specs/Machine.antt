@@ -10,6 +10,7 @@ use Rattle.rules.specs.Plant.{Settings, percent, partsOf, lastDigit}
 use Rattle.rules.specs.Name.{Name, segmentDigit}
 use Rattle.rules.specs.Body.{Record, Body}
 use Rattle.rules.specs.File.{File, Outcome, refuse, file, takeFile, recordsIn, startOf, flagOf, nextAccess}
+use Rattle.rules.specs.Response.{takeResponse}
 use Rattle.rules.specs.Causes.{numberOf, Reply, accepted, refused, ceiling, update, fixed, nothing, parts, blocks}
 use Rattle.rules.specs.Store.{blockCount, storeLength, Requests, noFlag, retries, freshRequests}
 use Rattle.rules.specs.declared.Cause.{Cause}
@@ -28,6 +29,7 @@ pub data Call : Type 0 where
   tick : ℕ → Call
   clockLost : Call
   fileTaken : List ℕ → List ℕ → Call  -- name, body
+  responseTaken : List ℕ → List ℕ → Call  -- boundary, bytes
   failure : Kind → ℕ → Call  -- kind, status
   due : Call
   ceilingOf : ℕ → Call  -- slot
@@ -311,6 +313,7 @@ unfoldable pub step : Told → Call → Machine → Step
 step w (tick t) M = checkStore w (check (ltb t endOfTime) Cause.Range (accepted, ticked (w .settings) t M) M) M
 step w clockLost M = (accepted, lostClock M)
 step w (fileTaken name body) M = checkStore w (atClock (M .clock) (λ t. takeOutcome t (takeFile (w .plant) name body) M) M) M
+step w (responseTaken boundary s) M = checkStore w (atClock (M .clock) (λ t. takeOutcome t (takeResponse (w .plant) boundary s) M) M) M
 step w (failure kind status) M =
     atClock (M .clock)
     (λ t. check (isStatus status) Cause.Range (accepted, withRequests (failed (w .settings) (lastDigit (w .plant)) kind t status (M .requests)) M) M)

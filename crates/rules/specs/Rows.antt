@@ -11,6 +11,7 @@ use Rattle.rules.specs.Plant.{Settings, plantId, macAddress, validSettin
 use Rattle.rules.specs.Name.{Name, parseName, formatOf, anySegment}
 use Rattle.rules.specs.Body.{Record, Body, schedule, parseBody, encodeBody, highestRate}
 use Rattle.rules.specs.File.{idFits, datesHold, ratesHold, checksumsHold, plantsHold, isRegistration, updateDates}
+use Rattle.rules.specs.Response.{parseResponse}
 use Rattle.rules.specs.Table.{Row, row}
 use Rattle.rules.specs.Writer.{Fields, updateRecord, fieldRecords, monthsFit}
 use Rattle.rules.specs.Request.{requestBytes}
@@ -65,6 +66,22 @@ readRows plant name body = row Cause.Name (nameBreaks (parseName name)) ∷ late
 unfoldable pub takenRows : List ℕ → List ℕ → List ℕ → List Row
 takenRows plant name body =
     row Cause.Name (nameBreaks (parseName name) || isRegistration (parseName name)) ∷ laterRows (some plant) (parseName name) body
+
+-- ---- a response
+
+-- 17: 'A response that breaks this form'
+abbrev pub formless : Option (List ℕ × List ℕ) → Bool
+formless none = true
+formless (some q) = false
+
+-- 'Taking a response is then taking that name and file'; nothing to judge where it has none
+abbrev pub carriedRows : List ℕ → Option (List ℕ × List ℕ) → List Row
+carriedRows plant none = []
+carriedRows plant (some q) = takenRows plant (q .0) (q .1)
+
+-- 'after 5 and before 7'
+unfoldable pub responseRows : List ℕ → List ℕ → List ℕ → List Row
+responseRows plant boundary s = row Cause.Response (formless (parseResponse boundary s)) ∷ carriedRows plant (parseResponse boundary s)
 
 -- ---- the writer
 

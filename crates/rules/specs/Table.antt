@@ -1,5 +1,5 @@
 -- The table of causes as it is judged (01, Causes of refusal): rows in order, of which the first that applies is the cause.
-use Prim.Native.Nat.{ℕ, _<_}
+use Prim.Native.Nat.{ℕ, _*_, _<_}
 use mathlib.Core.Path.{_≡_}
 use mathlib.Core.Bool.{Bool, true, false, cond, _&&_, _||_}
 use mathlib.Core.List.{List, [], _∷_}
@@ -34,9 +34,9 @@ firstOf (r ∷ rs) = cond (r .applies) (some (r .cause)) (firstOf rs)
 abbrev pub isCause : Cause → Cause → Bool
 isCause c d = eqb (numberOf c) (numberOf d)
 
--- where a cause stands in the order in which they are judged: its number. A cause of a later paper may have another place.
+-- where a cause stands in the order in which they are judged, in tenths: 01's at their numbers; 02 has 17 'after 5 and before 7'
 abbrev pub placeOf : Cause → ℕ
-placeOf c = numberOf c
+placeOf c = cond (isCause c Cause.Response) 65 (10 * numberOf c)
 
 -- whether a cause's row applies; a cause that has no row among them never does
 unfoldable pub appliesIn : List Row → Cause → Bool

@@ -22,7 +22,7 @@ pub use lengths::STORE_LENGTH;
 pub use numbers::cause_number;
 pub use numbers::format_number;
 
-// Why a call is refused: a case for each number of 01's table, in its order.
+// Why a call is refused: a case for each number of 01's table, then of 02, in their order.
 pub enum Cause {
     PlantId,
     Setting,
@@ -40,9 +40,10 @@ pub enum Cause {
     Full,
     Buffer,
     ErrorFile,
+    Response,
 }
 
-// The answer to a call that changes something: tick, clock lost, file taken, failure reported.
+// The answer to a call that changes something: tick, clock lost, file taken, response taken, failure reported.
 pub enum Answer {
     Accepted,
     Refused(Cause),

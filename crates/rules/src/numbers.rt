@@ -5,7 +5,7 @@ ghost use Rattle.rules.specs.Name.{formatNumber};
 use crate::Cause;
 use crate::Format;
 
-// The number in 01's table.
+// The number in 01's table, and in 02.
 pub fn cause_number(cause: Cause) -> u32
     ensures { λ r. ⌜ r ≡ numberOf cause ⌝ }
 {
@@ -26,6 +26,7 @@ pub fn cause_number(cause: Cause) -> u32
         Cause::Full => 14,
         Cause::Buffer => 15,
         Cause::ErrorFile => 16,
+        Cause::Response => 17,
     }
 }
 
