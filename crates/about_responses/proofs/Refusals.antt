@@ -3,9 +3,8 @@ use Prim.Native.Nat.{ℕ}
 use mathlib.Core.Path.{_≡_, _∙_, refl, sym, ap}
 use mathlib.Core.Bool.{true, false}
 use mathlib.Core.List.{List, _∷_}
-use mathlib.Core.Logic.{_↔_}
 use mathlib.Core.Option.{Option, none, some, Option·some-ne-none}
-use Rattle.rules.specs.File.{File, refuse, file, takeFile}
+use Rattle.rules.specs.File.{File, file, takeFile}
 use Rattle.rules.specs.Response.{parseResponse, takeParsed, takeResponse}
 use Rattle.rules.specs.Table.{row, firstOf, appliesIn}
 use Rattle.rules.specs.Rows.{formless, takenRows, carriedRows, responseRows}

@@ -1,9 +1,7 @@
 // The boundary, and the bytes that it stands in: the first line, and what closes the file.
 ghost use mathlib.Core.Path.{_≡_};
-ghost use mathlib.Core.Bool.{_&&_, _||_};
 ghost use Prim.Native.Nat.{_≤_, _+_};
 ghost use lib.ListN.{length};
-ghost use lib.Dec.{leb};
 ghost use Rattle.rules.specs.Response.{letterOrDigit, lawfulBoundary, begins, opening, closing, endIn};
 ghost use Rattle.response.specs.Found.{isEnd};
 use crate::lines::LINE_END;

@@ -1,4 +1,5 @@
-// The header lines, walked once: 'Each of Content-Length and Content-Disposition must begin exactly one header line, spelt so, before a colon and a space; other lines are skipped'.
+// The header lines, walked once: 'Each of Content-Length and Content-Disposition must begin exactly one header line, spelt so, before
+// a colon and a space; other lines are skipped'.
 ghost use mathlib.Core.Path.{_≡_};
 ghost use Prim.Native.Nat.{_≤_};
 ghost use lib.ListN.{length};
