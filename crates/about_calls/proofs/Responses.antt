@@ -18,6 +18,7 @@ use Rattle.rules.specs.declared.Answer.{Answer}
 use Rattle.rules.specs.declared.Cause.{Cause}
 use Rattle.about_responses.specs.Exact.{ResponseBytes, Carried}
 use Rattle.about_responses.proofs.Exact.{response-exactly, broken-exactly}
+use Rattle.about_responses.proofs.Refusals.{response-carries}
 use Rattle.pool.specs.Held.{heldOf}
 use Rattle.unit.specs.Values.{isSound}
 use Rattle.unit.specs.Rows.{isUnset}
@@ -35,8 +36,7 @@ use Rattle.about_calls.proofs.Sentences.{outcome-untouched}
 
 -- what is read of it is what is read of the name and file that it carries
 same-outcome : (plant boundary bytes name body : List ℕ) → Carried boundary bytes name body → takeResponse plant boundary bytes ≡ takeFile plant name body
-unfolding takeResponse
-same-outcome plant boundary bytes name body c = ap (takeParsed plant) (response-exactly boundary bytes name body .1 c)
+same-outcome plant boundary bytes name body c = response-carries plant boundary bytes name body (response-exactly boundary bytes name body .1 c)
 
 pub response-as-file : ResponseAsFile
 response-as-file u store boundary bytes name body c =
