@@ -10,7 +10,6 @@ import shutil
 import sys
 
 sys.path.insert(0, str(pathlib.Path(__file__).parent))
-import schedule_files as files
 from schedule_files import X
 
 INSTALL = f"install {X} 0123456789AB 4000 5500 5"
@@ -40,50 +39,8 @@ def long_lines():
     yield "longest-segment", [INSTALL, padded("request ", MOST, "9")], ["accepted", "refused 7"]
     yield "longest-hex-segment", [INSTALL, padded("request hex:", MOST, "3")], ["accepted", "refused 7"]
     yield "longest-name", READY + [padded("take ", MOST - 2, "2") + " -"], ["accepted"] * 3 + ["refused 7"]
-    yield "longest-response", READY + [padded("response xy ", MOST), "command"], ["accepted"] * 3 + ["refused 17", "0"]
-    yield "response-too-long", READY + [padded("response xy ", MOST + 2), "command"], ["accepted"] * 3 + ["too long", "0"]
-    yield "longest-boundary", READY + [padded("response ", MOST - 2, "b") + " -"], ["accepted"] * 3 + ["refused 17"]
-    yield "longest-hex-boundary", READY + [padded("response hex:", MOST - 3, "4") + " -"], ["accepted"] * 3 + ["refused 17"]
     yield "longest-words", [FULL[:MOST], FULL[: MOST + 1]], ["unknown", "too long"]
     yield "spaces-alone", [" " * MOST, " " * (MOST + 1)], ["unknown", "too long"]
-
-
-def responses():
-    """Whole responses, around 01's example 10 and around a yearly file; each line with its answer."""
-    name, file = files.name("203", "0000"), files.body([files.update()])
-    good = files.response(name, file).hex()
-    broken = ["response", "response B", "response B - -", "response  -", "response B 0", "response B 0g", "response B hex:00", "response hex:4 -",
-              "response hex:4g -", "Response B -", "RESPONSE B -", "response B -- ", " response B -"]
-    yield from ((line, "unknown") for line in broken)
-    yield "response B -", "no unit"
-    yield from ((line, "accepted") for line in READY[:1])
-    yield f"response BOUNDARY {good}", "refused 3"
-    yield from ((line, "accepted") for line in READY[1:2])
-    yield f"response BOUNDARY {good}", "refused 5"
-    yield "response B -", "refused 5"
-    yield from ((line, "accepted") for line in READY[2:])
-    yield from ((line, "unknown") for line in broken)
-    for line in ("response B -", "response hex: -", f"response boundary {good}", f"response --BOUNDARY {good}", f"response hex: {good}",
-                 f"response BOUNDARY {good[:-2]}", f"response BOUNDARY {good[2:]}", f"response BOUNDARY {good}0d", f"response BOUNDARY {good}0d0a0d0a"):
-        yield line, "refused 17"
-    yield "free", "16"
-    for other in (b"", b"x", b'"' + name + b'"', name + b" "):
-        yield f"response BOUNDARY {files.response(other, file).hex()}", "refused 7"
-    yield f"response BOUNDARY {files.response(name, b'').hex()}", "refused 9"
-    for boundary in ("hex:" + b"BOUNDARY".hex(), "BOUNDARY"):
-        yield f"response {boundary} {good.upper()}0d0A", "accepted"
-    yield "state", "clock 827917200 floor 313 w 2 h none k 0 f 0 u 827926200 command 0 held 314:0"
-    for boundary in ("7", "z" * 70):
-        yield f"response {boundary} {files.response(name, file, boundary).hex()}", "accepted"
-    for boundary in ("z" * 71, "a-b", "a_b", "é", "hex:6120", "hex:ff"):
-        whole = files.response(name, file, "a b" if boundary.startswith("hex:") else boundary)
-        yield f"response {boundary} {whole.hex()}", "refused 17"
-    year = files.response(files.name("201", "9992"), files.body(files.year_from(2026, 4)))
-    yield f"response BOUNDARY {year.hex()}", "accepted"
-    yield "free", "2"
-    yield "byte 5 101", "accepted"
-    yield f"response BOUNDARY {year.hex()}", "refused 4"
-    yield "response B -", "refused 4"
 
 
 def large_log():
@@ -97,7 +54,7 @@ def large_log():
 
 def main(folder):
     def write(case, lines, answers, end="\n"):
-        (folder / f"{case}.input").write_text("\n".join(lines) + end if lines else "", encoding="utf-8")
+        (folder / f"{case}.input").write_text("\n".join(lines) + end if lines else "")
         (folder / f"{case}.answers").write_text("".join(f"{answer}\n" for answer in answers))
 
     write("nothing", [], [])
@@ -105,7 +62,6 @@ def main(folder):
     for case, lines, answers in long_lines():
         write(case, lines, answers)
         write(f"{case}-without-0A", lines, answers, end="")
-    write("responses", *zip(*responses()))
     write("large-log", *large_log())
     root = pathlib.Path(__file__).parent.parent
     for case, lines, answers in (

@@ -1,4 +1,4 @@
-"""Names and bodies of files, written field by field as document 01 has them, and responses around them, as document 02 has them."""
+"""Names and bodies of files, written field by field as document 01 has them."""
 X = "12345678901234567890123455"  # 'Plant X'
 OTHER = "00000000000000000000000011"  # weight 9 × 1 at digit 25: check digit 9, so this one is wrong
 Y = "00000000000000000000000019"  # and this one is right
@@ -14,17 +14,6 @@ def digits(number_or_text, width=None):
 
 def name(form, segment, plant=X, created=CREATED, end=".data"):
     return f"{form}_{segment}_{plant}_{created}{end}".encode()
-
-
-def response(name, file, boundary="BOUNDARY", end=b""):
-    """The response of 002, figure 4.3: a body of multipart/mixed with one part"""
-    headers = [
-        b"Content-Length: %d" % len(file),
-        b"Content-Type: application/octet-stream",
-        b"Content-Disposition: attachment; filename=" + name,
-    ]
-    opening = [b"--" + boundary.encode()] + headers + [b"", b""]
-    return b"\r\n".join(opening) + file + b"\r\n--" + boundary.encode() + b"--" + end
 
 
 def record(start, rates, flag=None, following=None, plant=X, schedule="2603270001", checksum=None, count=None):

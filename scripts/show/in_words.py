@@ -19,7 +19,7 @@ MONTHS = 1200
 BLOCK = 1488
 LONGEST = 65536  # bytes of a line that is read
 
-# Document 01's table of causes, and document 02's; of 6, 7 and 9 what a call of `replay` can be refused for.
+# Document 01's table of causes; of 6, 7 and 9 what a call of `replay` can be refused for.
 CAUSES = {
     "1": "ID length, byte or check digit",
     "2": "setting, MAC length or MAC byte out of range",
@@ -30,7 +30,6 @@ CAUSES = {
     "6 ceiling": "slot not below 1,753,200, the end of 2099",
     "6 failure": "status not 0, 100-199 or 300-599",
     "7 take": "name breaks its form, or 301 given to be taken",
-    "7 response": "name behind filename= breaks its form, or 301 given to be taken",
     "7 request": "segment breaks its form",
     "8": "name's ID isn't the plant's",
     "9": "record count, digit, 203's n above 336, or length",
@@ -40,7 +39,6 @@ CAUSES = {
     "13": "record's plant ID isn't the name's",
     "14": "more than 16 months would be held",
     "15": "output longer than the lent buffer",
-    "17": "response or its boundary breaks the form",
 }
 
 
@@ -96,30 +94,6 @@ def file(name):
     return f"{found[1]}, {segment(found[2])}", made
 
 
-def of_file(name):
-    """A file by its name; nothing where the name has another form."""
-    found = file(name)
-    return f"{found[0]}, made {found[1]}" if found else ""
-
-
-def bytes_of(what, digits):
-    """How many bytes hex digits stand for."""
-    length = 0 if digits == "-" else len(digits) // 2
-    return f"a {what} of {length:,} byte{'s' * (length != 1)}"
-
-
-def name_in(line):
-    """The name of the file that a call hands over: it stands in the call, or behind the first `filename=` of the response."""
-    word, given, digits = line.split(" ")
-    if word == "take":
-        return text_of(given)
-    try:
-        found = re.search(rb"filename=(.*?)\r\n", bytes.fromhex(digits), re.S)
-    except ValueError:
-        return ""
-    return found[1].decode("ascii", "replace") if found else ""
-
-
 def number(word):
     """A word as a number, None where it is none."""
     return int(word.lstrip("0") or 0) if re.fullmatch("0*[0-9]{1,20}", word) else None
@@ -130,9 +104,9 @@ def of_call(line):
     word, *rest = line.split(" ")
     numbers = [number(part) for part in rest]
     if word == "take" and len(rest) == 2:
-        return ", ".join(filter(None, (of_file(name_in(line)), bytes_of("body", rest[1]))))
-    if word == "response" and len(rest) == 2:
-        return " with ".join(filter(None, (bytes_of("response", rest[1]), of_file(name_in(line)))))
+        found = file(text_of(rest[0]))
+        length = 0 if rest[1] == "-" else len(rest[1]) // 2
+        return (f"{found[0]}, made {found[1]}, " if found else "") + f"a body of {length:,} byte{'s' * (length != 1)}"
     if word == "request" and len(rest) == 1:
         return segment(text_of(rest[0]))
     if word == "failure" and rest and rest[0] in ("update", "fixed") and numbers[1:] and numbers[1] is not None:
