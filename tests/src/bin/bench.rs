@@ -275,7 +275,12 @@ fn races() -> Vec<Row> {
         race_reading("update of 336 slots read", 100, &update),
         race_taking(&format!("{taking} replaced"), 4, &full, &yearly),
         race_taking(&format!("{taking} new"), 4, &empty, &yearly),
-        race_response("yearly response taken, 13 months replaced", 4, &full, &yearly),
+        race_response(
+            "yearly response taken, 13 months replaced",
+            4,
+            &full,
+            &yearly,
+        ),
         race_taking("update of 336 slots read and taken", 20, &full, &update),
         race_seconds(&full),
         race_years(random),

@@ -60,21 +60,12 @@ fn no_letter(random: &mut Random) -> u8 {
     }
 }
 
-/// Lines that begin neither Content-Length nor Content-Disposition 'spelt so,
-/// before a colon and a space', among them lone 0D and 0A.
-const OTHER_LINES: [&[u8]; 17] = [
-    b"Content-Length:5",
-    b"content-length: 5",
-    b"CONTENT-LENGTH: 5",
-    b"Content-Lengthy: 5",
-    b" Content-Length: 5",
-    b"X-Content-Length: 5",
-    b"\nContent-Length: 5",
-    b"Content-Disposition:filename=x",
-    b"content-disposition: filename=x",
-    b"Content-Disposition; filename=x",
-    b"filename=x",
+/// Lines that are skipped, among them a lone 0D and 0A.
+const OTHER_LINES: [&[u8]; 9] = [
+    b"Content-Type: text/plain",
     b"Content-Length",
+    b"filename=x",
+    b": ",
     b" ",
     b"\n",
     b"\r",
@@ -82,10 +73,47 @@ const OTHER_LINES: [&[u8]; 17] = [
     b"\xE9\x85\x8D\0\xFF",
 ];
 
-/// Lengths that are not 1 to 6 decimal digits.
-const NO_LENGTHS: [&[u8]; 12] = [
-    b"", b" ", b"+1", b"-1", b" 1", b"1 ", b"1.", b"0x1", b"1,0", b"0000001", b"1\r", b"\xB1",
-];
+/// A line that is not quite this one: its title spelt otherwise, or no colon
+/// and space behind it; or any other line.
+fn near_miss(line: &[u8], random: &mut Random) -> Vec<u8> {
+    let colon = line.iter().position(|byte| *byte == b':');
+    let (title, value) = line.split_at(colon.expect("a header line"));
+    let value = &value[b": ".len()..];
+    let joined = |joint: &[u8]| [title, joint, value].concat();
+    match random.below(10) {
+        0 => [&title.to_ascii_lowercase(), &b": "[..], value].concat(),
+        1 => [&title.to_ascii_uppercase(), &b": "[..], value].concat(),
+        2 => joined(b":"),
+        3 => joined(b" "),
+        4 => joined(b" : "),
+        5 => joined(b"y: "),
+        6 => joined(b":\t"),
+        7 => [&[random.pick(b" \r\n-")], line].concat(),
+        8 => [b"X-", line].concat(),
+        _ => random.pick(&OTHER_LINES).to_vec(),
+    }
+}
+
+/// The length spelt as it may not be: not 1 to 6 decimal digits and nothing
+/// else.
+fn odd_length(length: usize, random: &mut Random) -> Vec<u8> {
+    let mut digits = length.to_string().into_bytes();
+    let bytes = |text: &[u8]| text.to_vec();
+    match random.below(8) {
+        0 => random.pick(&[&b""[..], b" ", b"x", b"+", b"-0"]).to_vec(),
+        1 => [&[random.pick(b"+- \t\n\r\0")], &digits[..]].concat(),
+        2 => [&digits[..], &[random.pick(b" .,;\t\n\r\0")]].concat(),
+        3 => format!("{length:0>7}").into_bytes(),
+        4 => format!("{length:0>20}").into_bytes(),
+        5 => format!("0x{length:x}").into_bytes(),
+        6 => [bytes(b"\""), digits, bytes(b"\"")].concat(),
+        _ => {
+            let place = random.place(digits.len());
+            digits[place] = random.pick(&[digits[place] | 0x80, b'/', b':', digits[place] - b'0']);
+            digits
+        }
+    }
+}
 
 /// Changes after which name and file are the same, or another name.
 pub static LAWFUL_CHANGES: &[Change] = &[
@@ -102,8 +130,11 @@ pub static LAWFUL_CHANGES: &[Change] = &[
         },
     ),
     change(Outcome::Same, "a line that is skipped", |frame, random| {
-        let line = random.pick(&OTHER_LINES);
-        frame.insert(line, random);
+        let needed = match random.once_in(2) {
+            true => frame.length().clone(),
+            false => frame.disposition().clone(),
+        };
+        frame.insert(&near_miss(&needed, random), random);
     }),
     change(Outcome::Same, "headers needed and no others", |frame, _| {
         frame.headers.retain(|line| {
@@ -207,8 +238,8 @@ pub static BREAKING_CHANGES: &[Change] = &[
         frame.headers.clear()
     }),
     change(Outcome::Broken, "no Content-Length", |frame, random| {
-        let place = frame.place("Content-Length: ");
-        frame.headers[place] = random.pick(&OTHER_LINES).to_vec();
+        let line = frame.length();
+        *line = near_miss(line, random);
     }),
     change(Outcome::Broken, "two Content-Lengths", |frame, random| {
         let line = match random.once_in(2) {
@@ -218,7 +249,8 @@ pub static BREAKING_CHANGES: &[Change] = &[
         frame.insert(&line, random);
     }),
     change(Outcome::Broken, "a length that is none", |frame, random| {
-        *frame.length() = text("Content-Length: ", random.pick(&NO_LENGTHS));
+        let odd = odd_length(frame.file.len(), random);
+        *frame.length() = text("Content-Length: ", &odd);
     }),
     change(
         Outcome::Broken,
@@ -244,8 +276,8 @@ pub static BREAKING_CHANGES: &[Change] = &[
         Outcome::Broken,
         "no Content-Disposition",
         |frame, random| {
-            let place = frame.place("Content-Disposition: ");
-            frame.headers[place] = random.pick(&OTHER_LINES).to_vec();
+            let line = frame.disposition();
+            *line = near_miss(line, random);
         },
     ),
     change(
