@@ -26,7 +26,7 @@ bench: library
 lists: library
 	@CARGO_TARGET_DIR=$(CURDIR)/target/cargo cargo run --quiet --release --offline --locked --manifest-path tests/Cargo.toml --features linked --bin lists
 
-# Fuzzes the library against the second implementation: make fuzz TARGET=reading|calls SECONDS=60. No part of the gate.
+# Fuzzes the library against the second implementation: make fuzz TARGET=reading|responses|calls SECONDS=60. No part of the gate.
 TARGET = all
 SECONDS = 60
 fuzz: library

@@ -11,8 +11,9 @@
  * A question (due, ceiling, command, free blocks, check, request) is given a copy and hands back its answer alone: it changes nothing
  * of the unit, which stays with the caller.
  *
- * Every call may be given any values. A refusal is a number of document 01's table (enum jag_cause; the lowest that applies);
- * unit, store and buffer are then as they were. Behind each call stand the numbers that it may refuse with.
+ * Every call may be given any values. A refusal is a number of document 01's table (enum jag_cause; the lowest that applies, where 17
+ * stands before 7); unit, store and buffer are then as they were. Behind each call stand the numbers that it may refuse with, in the
+ * order in which they are judged.
  *
  * Seconds count from 2000-01-01 00:00:00 Japanese time and end with 2099; slots are half hours of 1,800 seconds; months count from
  * January 2000 = 0. A digit is a byte of value 0 to 9, not ASCII, except in a name and in a request's segment; a MAC address is 12
@@ -20,9 +21,9 @@
  *
  * Buffers. A pointer comes with a length: so many bytes are the caller's, and are read or written in this call and no later. Any length
  * is taken, 0 too, and any alignment.
- * - A buffer that a call writes (`out`, and the store in jag_take_file) must not overlap another buffer of the same call. Nothing tests
- *   for it, and nothing that is said here holds where they do: a body written over its own rates can come out as a lawful one, with
- *   rates that nobody gave. Buffers that are only read may overlap.
+ * - A buffer that a call writes (`out`, and the store in jag_take_file and jag_take_response) must not overlap another buffer of the same
+ *   call. Nothing tests for it, and nothing that is said here holds where they do: a body written over its own rates can come out as a
+ *   lawful one, with rates that nobody gave. Buffers that are only read may overlap.
  * - With length 0 nothing is read or written through the pointer, and it may be null: null and 0 are an empty buffer, as for `next` of
  *   jag_write_body in a 201 or 202. With another length it must not be null.
  *
@@ -82,7 +83,8 @@ enum jag_cause {
     JAG_RECORD_PLANT = 13, /* a record's plant ID is not the name's */
     JAG_FULL = 14,         /* more than 16 months would be held */
     JAG_BUFFER = 15,       /* output longer than the lent buffer */
-    JAG_ERROR_FILE = 16    /* error file breaks its form */
+    JAG_ERROR_FILE = 16,   /* error file breaks its form */
+    JAG_RESPONSE = 17      /* response or boundary breaks its form; judged before 7 */
 };
 
 /* What an installer sets. Any values may be given, and none is cut: one that is out of its range is refused. */
@@ -200,9 +202,16 @@ struct jag_done jag_tick(struct jag_unit unit, uint64_t second, const uint8_t *s
 /* The clock is lost, and the command 0: 4. */
 struct jag_done jag_clock_lost(struct jag_unit unit);
 
-/* A file came in: 3, 4, 5, 7 to 14. The only call that writes to the store, which must overlap neither name nor body. */
+/* A file came in: 3, 4, 5, 7 to 14. This call and the next alone write to the store, which must overlap neither name nor body. */
 struct jag_done jag_take_file(struct jag_unit unit, const uint8_t *name, size_t name_length, const uint8_t *body,
                               size_t body_length, uint8_t *store, size_t store_length);
+
+/* A whole response came in, the body of the modem's HTTP response uncut (002, 4.2): 3, 4, 5, 17, 7 to 14. The boundary is that of the
+ * response's Content-Type, 1 to 70 letters or digits, without the two hyphens. The file in the response is taken as jag_take_file takes
+ * it, under the name behind `filename=`; so its cause 9 is a bad body in a good response. The store must overlap neither boundary nor
+ * response. Beside its file the response of 002's figure 4.3 has 190 bytes; another server's may have more headers. */
+struct jag_done jag_take_response(struct jag_unit unit, const uint8_t *boundary, size_t boundary_length,
+                                  const uint8_t *response, size_t response_length, uint8_t *store, size_t store_length);
 
 /* A request failed, with the HTTP status or 0 (link lost, or file refused): 4, 5, 6. */
 struct jag_done jag_update_failed(struct jag_unit unit, uint64_t status);

@@ -8,6 +8,7 @@ use compare::generate::Random;
 
 use crate::file::{address, change, lawful, raw};
 use crate::input::Input;
+use crate::response::{self, framed};
 
 /// Calls of a list at most.
 const CALLS_MAX: usize = 40;
@@ -112,13 +113,12 @@ fn update(clock: u64, input: &mut Input) -> Draft {
     draft
 }
 
-/// A file: near the clock, changed, or any bytes.
-fn file(clock: u64, plant: &[u8], input: &mut Input) -> Call {
+/// Name and body of a file: near the clock, changed, or any bytes.
+fn file(clock: u64, plant: &[u8], input: &mut Input) -> (Vec<u8>, Vec<u8>) {
     let kind = input.byte();
     if kind >= 240 {
         let length = input.byte().into();
-        let (name, body) = raw(input.bytes(length));
-        return Call::TakeFile { name, body };
+        return raw(input.bytes(length));
     }
     let mut draft = match kind % 4 {
         0 => fixed_schedule(clock, 13, input),
@@ -130,10 +130,22 @@ fn file(clock: u64, plant: &[u8], input: &mut Input) -> Call {
     if kind >= 160 {
         change(&mut draft, input);
     }
-    Call::TakeFile {
-        name: draft.name.bytes(),
-        body: draft.body(),
+    (draft.name.bytes(), draft.body())
+}
+
+/// A file taken, or a response around it, or one of any bytes.
+fn taking(kind: u8, clock: u64, plant: &[u8], input: &mut Input) -> Call {
+    if kind >= 240 {
+        let length = input.byte().into();
+        let (boundary, response) = response::raw(input.bytes(length));
+        return Call::TakeResponse { boundary, response };
     }
+    let (name, body) = file(clock, plant, input);
+    if kind < 160 {
+        return Call::TakeFile { name, body };
+    }
+    let (boundary, response) = framed(&name, &body, input);
+    Call::TakeResponse { boundary, response }
 }
 
 fn status(input: &mut Input) -> u64 {
@@ -157,12 +169,13 @@ pub fn calls(plant: &[u8], input: &mut Input) -> Vec<Call> {
     let mut clock = START;
     let mut list = Vec::new();
     while !input.is_empty() && list.len() < CALLS_MAX {
-        let call = match input.byte() % 16 {
+        let kind = input.byte();
+        let call = match kind % 16 {
             0..4 => Call::Tick {
                 second: second(clock, plant[25], input),
             },
             4 => Call::ClockLost,
-            5..10 => file(clock, plant, input),
+            5..10 => taking(kind, clock, plant, input),
             10 => Call::UpdateFailed {
                 status: status(input),
             },

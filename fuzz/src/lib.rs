@@ -1,9 +1,12 @@
 //! What the fuzz targets share: `input` takes values from libFuzzer's bytes,
-//! `file` makes names and bodies of them, `calls` lists of calls.
+//! `file` makes names and bodies of them, `response` whole responses, `calls`
+//! lists of calls, and `pair` gives calls to the library and to the machine.
 
 pub mod calls;
 pub mod file;
 pub mod input;
+pub mod pair;
+pub mod response;
 
 /// Makes a function over bytes the entry of libFuzzer. A panic ends the run
 /// and leaves the input in a file.

@@ -1,5 +1,6 @@
-/* What firmware does with the unit on one day: installs it, sets the clock, asks what is due, builds the request, takes files, ticks
- * through the day second by second, and reads ceiling and command. The files are made by the library's own writer, in the server's place.
+/* What firmware does with the unit on one day: installs it, sets the clock, asks what is due, builds the request, takes files and whole
+ * responses, ticks through the day second by second, and reads ceiling and command. The files are made by the library's own writer, in the
+ * server's place.
  * Beside that every field of every struct that a call hands back is printed, with values that tell it from the others. */
 #include "jagwelu.h"
 
@@ -20,11 +21,14 @@ static const uint8_t MAC[12] = {'0', '0', '1', 'B', '2', 'C', '3', 'D', '4', 'E'
 
 static const char UPDATE_NAME[] = "203_0000_12345678901234567890123455_20260327090000.data";
 static const char YEAR_NAME[] = "201_9993_12345678901234567890123455_20260327233000.data";
+static const char BOUNDARY[] = "BOUNDARY";
 static const char REGISTRATION_NAME[] = "301_8888_12345678901234567890123455_20260327090000.data";
 
 static uint8_t store[JAG_STORE_LENGTH];
 static uint8_t body[JAG_BODY_LENGTH];
 static uint8_t rates[13 * JAG_BLOCK_LENGTH];
+/* With room for the headers of 002's figure 4.3. */
+static uint8_t response[JAG_BODY_LENGTH + 200];
 
 /* ASCII digits as the digits of a body. */
 static void digits(const char *text, uint8_t *out) {
@@ -135,6 +139,44 @@ static struct jag_unit take(struct jag_unit unit, const char *name, size_t lengt
     return done.unit;
 }
 
+static int same(struct jag_unit a, struct jag_unit b) {
+    return memcmp(a.id, b.id, 26) == 0 && memcmp(a.mac, b.mac, 12) == 0 && a.wanted_flag == b.wanted_flag
+           && a.held_flag == b.held_flag && a.failures == b.failures && a.clock_set == b.clock_set && a.floor == b.floor
+           && a.settings.panel == b.settings.panel && a.settings.inverter == b.settings.inverter
+           && a.settings.minutes == b.settings.minutes && a.clock == b.clock && a.command == b.command && a.fixed_at == b.fixed_at && a.update_at == b.update_at
+           && memcmp(a.months, b.months, sizeof a.months) == 0 && a.free == b.free;
+}
+
+/* The body of the server's HTTP response, as the modem hands it over: 002's figure 4.3 around the first `length` bytes of `body`. */
+static size_t respond(const char *name, size_t length) {
+    int head = snprintf((char *)response, sizeof response,
+                        "--%s\r\nContent-Length: %zu\r\nContent-Type: application/octet-stream\r\n"
+                        "Content-Disposition: attachment; filename=%s\r\n\r\n",
+                        BOUNDARY, length, name);
+    memcpy(response + head, body, length);
+    int tail = snprintf((char *)response + head + length, sizeof response - (size_t)head - length, "\r\n--%s--", BOUNDARY);
+    return (size_t)head + length + (size_t)tail;
+}
+
+static struct jag_done take_whole(struct jag_unit unit, const char *boundary, size_t length) {
+    return jag_take_response(unit, (const uint8_t *)boundary, strlen(boundary), response, length, store, sizeof store);
+}
+
+/* The file comes in a response, and leaves what it leaves by itself. A response that is cut, or has another boundary, leaves nothing. */
+static struct jag_unit take_response(struct jag_unit unit, const char *name, size_t length) {
+    static uint8_t copy[sizeof store];
+    memcpy(copy, store, sizeof store);
+    struct jag_done filed = jag_take_file(unit, (const uint8_t *)name, strlen(name), body, length, copy, sizeof copy);
+    size_t whole = respond(name, length);
+    printf("response cut: cause %u, of another boundary: cause %u\n", take_whole(unit, BOUNDARY, whole - 1).cause,
+           take_whole(unit, "boundary", whole).cause);
+    struct jag_done done = take_whole(unit, BOUNDARY, whole);
+    printf("take response of %zu bytes, %.8s: cause %u, %u blocks free, same as its file %d\n", whole, name, done.cause,
+           jag_free_blocks(done.unit).value,
+           done.cause == filed.cause && same(done.unit, filed.unit) && memcmp(store, copy, sizeof store) == 0);
+    return done.unit;
+}
+
 /* One tick a second up to the given second of the day. */
 static struct jag_unit run(struct jag_unit unit, uint64_t until) {
     while (unit.clock < MIDNIGHT + until) {
@@ -146,14 +188,6 @@ static struct jag_unit run(struct jag_unit unit, uint64_t until) {
         unit = done.unit;
     }
     return unit;
-}
-
-static int same(struct jag_unit a, struct jag_unit b) {
-    return memcmp(a.id, b.id, 26) == 0 && memcmp(a.mac, b.mac, 12) == 0 && a.wanted_flag == b.wanted_flag
-           && a.held_flag == b.held_flag && a.failures == b.failures && a.clock_set == b.clock_set && a.floor == b.floor
-           && a.settings.panel == b.settings.panel && a.settings.inverter == b.settings.inverter
-           && a.settings.minutes == b.settings.minutes && a.clock == b.clock && a.command == b.command && a.fixed_at == b.fixed_at && a.update_at == b.update_at
-           && memcmp(a.months, b.months, sizeof a.months) == 0 && a.free == b.free;
 }
 
 /* Units that were overwritten: each call refuses them and hands back what came in. A setting whose low 32 bits are the old one is another. */
@@ -177,9 +211,11 @@ static void overwritten(struct jag_unit unit) {
 /* Null with length 0 is an empty buffer, in every call. */
 static void empty(struct jag_unit unit) {
     const uint8_t *name = (const uint8_t *)UPDATE_NAME;
-    printf("empty: install %u, tick %u, take %u and %u, ceiling %u, check %u, request %u and %u, read %u and %u, read for %u, write %u, error file %u, record %u, copy %u\n",
+    printf("empty: install %u, tick %u, take %u and %u, response %u and %u, ceiling %u, check %u, request %u and %u, "
+           "read %u and %u, read for %u, write %u, error file %u, record %u, copy %u\n",
            jag_install(NULL, 0, NULL, 0, jag_settings_of(4000, 5500, 5)).cause, jag_tick(unit, unit.clock, NULL, 0).cause,
            jag_take_file(unit, NULL, 0, NULL, 0, NULL, 0).cause, jag_take_file(unit, name, 55, NULL, 0, store, sizeof store).cause,
+           jag_take_response(unit, NULL, 0, NULL, 0, NULL, 0).cause, jag_take_response(unit, NULL, 0, NULL, 0, store, sizeof store).cause,
            jag_ceiling(unit, 0, NULL, 0).cause, jag_check(unit, NULL, 0), jag_request(unit, NULL, 0, NULL, 0).cause,
            jag_request(unit, (const uint8_t *)"0000", 4, NULL, 0).cause, jag_read(NULL, 0, NULL, 0).cause,
            jag_read(name, 55, NULL, 0).cause, jag_read_for(NULL, 0, name, 55, NULL, 0).cause,
@@ -261,7 +297,7 @@ static struct jag_unit noon(struct jag_unit unit) {
     return unit;
 }
 
-/* The fixed schedule is due in the window, fails, and is taken; it is another than the wanted one, so that it is still due. */
+/* The fixed schedule is due in the window, fails, and is taken, by its response; it is another than the wanted one, so that it is still due. */
 static struct jag_unit night(struct jag_unit unit) {
     unit = run(unit, 23 * 3600 + 39 * 60 + 59);
     ask(unit);
@@ -276,12 +312,13 @@ static struct jag_unit night(struct jag_unit unit) {
     size_t length = write_body(201, "202604010000", NULL, 395 * 48, 0, sizeof body);
     again(201, length);
     printf("record 13 of 201: cause %u, of 301: cause %u\n", jag_record(201, body, length, 13).cause, jag_record(301, body, length, 0).cause);
-    unit = take(unit, YEAR_NAME, length);
+    unit = take_response(unit, YEAR_NAME, length);
     for (int i = 0; i < 4; i++) {
         unit = jag_fixed_failed(unit, 0).unit;
     }
     print_unit(unit);
     body[60] = 101;
+    unit = take_response(unit, YEAR_NAME, length);
     return take(unit, YEAR_NAME, length);
 }
 
@@ -312,6 +349,7 @@ int main(void) {
     print_error("E2001 busy");
     unit = jag_clock_lost(unit).unit;
     print_number("clock lost, command", jag_command(unit));
+    printf("response without a clock: cause %u\n", take_whole(unit, BOUNDARY, sizeof response).cause);
     ask(unit);
     return 0;
 }

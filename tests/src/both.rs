@@ -52,12 +52,21 @@ impl Both {
         self.settle(done, answer)
     }
 
+    pub fn take_response(&mut self, boundary: &[u8], response: &[u8]) -> u32 {
+        let done = firmware::take_response(self.unit, boundary, response, &mut self.store);
+        let answer = self.fixed.take_response(boundary, response);
+        self.settle(done, answer)
+    }
+
     /// Any call to both, or all questions; its cause.
     pub fn call(&mut self, call: &Call) -> u32 {
         let unit = self.unit;
         let (done, answer) = match call {
             Call::Tick { second } => return self.tick(*second),
             Call::TakeFile { name, body } => return self.take_file(name, body),
+            Call::TakeResponse { boundary, response } => {
+                return self.take_response(boundary, response)
+            }
             Call::ClockLost => (firmware::clock_lost(unit), self.fixed.clock_lost()),
             Call::UpdateFailed { status } => (
                 firmware::update_failed(unit, *status),

@@ -1,16 +1,34 @@
 //! A call to a unit, with the values that it is given besides unit and store,
-//! and its answer: demand 3's calls.
+//! and its answer: demand 3's calls, and those of document 02.
+
+/// Bytes of a response that are shown.
+const HEAD: usize = 300;
 
 /// A call.
 #[derive(Clone, Debug, PartialEq, Eq)]
 pub enum Call {
-    Tick { second: u64 },
+    Tick {
+        second: u64,
+    },
     ClockLost,
-    TakeFile { name: Vec<u8>, body: Vec<u8> },
-    UpdateFailed { status: u64 },
-    FixedFailed { status: u64 },
+    TakeFile {
+        name: Vec<u8>,
+        body: Vec<u8>,
+    },
+    TakeResponse {
+        boundary: Vec<u8>,
+        response: Vec<u8>,
+    },
+    UpdateFailed {
+        status: u64,
+    },
+    FixedFailed {
+        status: u64,
+    },
     Due,
-    Ceiling { slot: u64 },
+    Ceiling {
+        slot: u64,
+    },
     Command,
     FreeBlocks,
 }
@@ -29,7 +47,7 @@ pub enum Due {
 pub enum Answer {
     /// A cause's number.
     Refused(u8),
-    /// Of a tick, clock lost, file taken or failure.
+    /// Of a tick, clock lost, file or response taken, or failure.
     Accepted,
     Due(Due),
     /// Rate (percent of C) and percent of the inverter's, where there is one.
@@ -39,12 +57,13 @@ pub enum Answer {
 }
 
 impl Call {
-    /// 01's name of the call.
+    /// The papers' name of the call.
     pub fn title(&self) -> &'static str {
         match self {
             Call::Tick { .. } => "tick",
             Call::ClockLost => "clock lost",
             Call::TakeFile { .. } => "file taken",
+            Call::TakeResponse { .. } => "response taken",
             Call::UpdateFailed { .. } => "update failed",
             Call::FixedFailed { .. } => "fixed failed",
             Call::Due => "due",
@@ -54,21 +73,31 @@ impl Call {
         }
     }
 
-    /// 'The store is lent to tick, file taken and ceiling.'
+    /// 'The store is lent to tick, file taken and ceiling', and 'taking a
+    /// response is then taking that name and file'.
     pub fn is_lent_the_store(&self) -> bool {
-        matches!(
-            self,
-            Call::Tick { .. } | Call::TakeFile { .. } | Call::Ceiling { .. }
-        )
+        matches!(self, Call::Tick { .. } | Call::Ceiling { .. }) || self.takes_a_file()
     }
 
-    /// The call in a line: of a file its name alone, and the body's length.
+    /// File and response taken alone write to the store.
+    pub fn takes_a_file(&self) -> bool {
+        matches!(self, Call::TakeFile { .. } | Call::TakeResponse { .. })
+    }
+
+    /// The call in a line: of a file its name alone, and the body's length; of
+    /// a response what stands before the file.
     pub fn line(&self) -> String {
         match self {
             Call::TakeFile { name, body } => format!(
                 "file taken: {:?}, {} bytes",
                 String::from_utf8_lossy(name),
                 body.len()
+            ),
+            Call::TakeResponse { boundary, response } => format!(
+                "response taken: boundary {:?}, {} bytes, {:?}",
+                String::from_utf8_lossy(boundary),
+                response.len(),
+                String::from_utf8_lossy(&response[..response.len().min(HEAD)])
             ),
             _ => format!("{self:?}"),
         }

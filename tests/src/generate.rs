@@ -1,6 +1,6 @@
 //! Deterministic inputs for every comparison: names and bodies, writer
-//! fields, error files, requests, installs and dates, valid and damaged, and
-//! lists of calls.
+//! fields, error files, requests, installs and dates, whole responses, valid
+//! and damaged, and lists of calls.
 //!
 //! Everything hangs on the seeds below and on the generator in `random`; the
 //! same seed always gives the same inputs.
@@ -14,10 +14,12 @@ pub mod damage_rules;
 pub mod draft;
 pub mod fields;
 pub mod files;
+pub mod frame;
 pub mod instants;
 pub mod lines;
 pub mod outputs;
 pub mod random;
+pub mod responses;
 pub mod shapes;
 pub mod spoil;
 pub mod spoil_store;
@@ -39,6 +41,8 @@ pub const REQUEST_SEED: u64 = 84;
 pub const INSTALL_SEED: u64 = 545;
 /// Seed of the dates and slots.
 pub const DATE_SEED: u64 = 36_525;
+/// Seed of the whole responses.
+pub const RESPONSE_SEED: u64 = 19_871;
 /// Seed of the first list of calls; the next ones follow it.
 pub const LIST_SEED: u64 = 23_808;
 /// Lists of calls in the gate.

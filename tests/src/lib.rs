@@ -1,5 +1,5 @@
 //! The library under test, held against a second implementation written from
-//! document 01 alone.
+//! documents 01 and 02 alone.
 //!
 //! `reference` is the plain implementation, `generate` makes the inputs,
 //! `lent` the buffers, `tally` counts what they reach. The library under test

@@ -8,10 +8,10 @@ mod pair;
 mod spoilt;
 
 pub use counts::Counts;
+pub use pair::Pair;
 
 use crate::generate::calls::{Calls, Installing};
 use crate::generate::{outputs, Random};
-use pair::Pair;
 
 /// One list in so many starts from a made-up sound unit, not from a fresh one.
 const MADE_UP: u64 = 6;

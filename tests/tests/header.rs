@@ -110,7 +110,7 @@ fn called<'a>(text: &'a str, before: &str) -> Vec<&'a str> {
 #[test]
 fn functions() {
     let declared = called(CALLS, "    fn ");
-    assert_eq!(declared.len(), 18);
+    assert_eq!(declared.len(), 19);
     // The comment at the header's top shows a tick; one is the header's own.
     let header = called(HEADER, " ");
     assert_eq!(header[..2], ["jag_tick", "jag_settings_of"]);

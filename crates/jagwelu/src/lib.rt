@@ -82,14 +82,14 @@ pub extern "C" fn jag_take_file(
 pub extern "C" fn jag_take_response(
     unit: HeldUnit,
     boundary: &[u8],
-    bytes: &[u8],
+    response: &[u8],
     store: &mut [u8],
 ) -> Handed
-    ensures answer { λ r. ⌜ r ≡ handed unit (responseOf (opened unit) (now (store .entry)) (now (boundary .entry)) (now (bytes .entry))) ⌝ }
-    ensures kept { λ _. ⌜ now (store .exit) ≡ storeAfterResponse (opened unit) (now (store .entry)) (now (boundary .entry)) (now (bytes .entry)) ⌝ }
+    ensures answer { λ r. ⌜ r ≡ handed unit (responseOf (opened unit) (now (store .entry)) (now (boundary .entry)) (now (response .entry))) ⌝ }
+    ensures kept { λ _. ⌜ now (store .exit) ≡ storeAfterResponse (opened unit) (now (store .entry)) (now (boundary .entry)) (now (response .entry)) ⌝ }
 {
     let opened = c_structs::open(unit);
-    let done = taking::take_response(opened, boundary, bytes, store);
+    let done = taking::take_response(opened, boundary, response, store);
     c_structs::hand(unit, done)
 }
 

@@ -3,24 +3,14 @@
 //! rates.
 #![no_main]
 
-use compare::call::{Answer, Call};
-use compare::firmware::{self, Settings, Unit, BLOCK_LENGTH, STORE_LENGTH};
+use compare::call::Call;
+use compare::firmware::{Settings, STORE_LENGTH};
 use compare::generate::draft::check_digit;
-use compare::reference::machine::Machine;
-use compare::reference::requests::Requests;
 use fuzz::calls::calls;
 use fuzz::input::Input;
+use fuzz::pair::Pair;
 
 fuzz::fuzz_target!(run);
-
-const MAC: &[u8] = b"012389ABCDEF";
-
-/// The library's unit and store, and the machine that gets the same calls.
-struct Pair {
-    unit: Unit,
-    store: Vec<u8>,
-    machine: Machine,
-}
 
 /// Any capacities, N from 5 to 10, an ID with any check digit, and a store of
 /// any byte, now and then of another length.
@@ -37,59 +27,7 @@ fn install(input: &mut Input) -> Pair {
         _ => STORE_LENGTH,
     };
     let settings = Settings::of(panel, inverter, minutes);
-    let done = firmware::install(&id, MAC, settings);
-    assert_eq!(done.cause, 0);
-    Pair {
-        unit: done.unit,
-        store: vec![input.byte(); length],
-        machine: Machine::install(&id, MAC, settings, length).expect("lawful values"),
-    }
-}
-
-impl Pair {
-    /// The library's answer and the machine's.
-    fn answers(&mut self, call: &Call) -> [Answer; 2] {
-        let answer = firmware::answers::answer(&mut self.unit, &mut self.store, call);
-        let answer = answer.expect("an answer of 01");
-        [answer, self.machine.answer(call)]
-    }
-
-    /// Clock, floor, w, h, k, f, u and command must be the machine's.
-    fn compare_values(&self, lines: &dyn Fn() -> Vec<String>) {
-        let (unit, machine) = (&self.unit, &self.machine);
-        let flag = |flag: u8| (flag != firmware::NO_FLAG).then_some(flag);
-        let requests = Requests {
-            wanted_flag: flag(unit.wanted_flag),
-            held_flag: flag(unit.held_flag),
-            failures: unit.failures,
-            fixed_at: unit.fixed_at,
-            update_at: unit.update_at,
-        };
-        let clock = (unit.clock_set == 1).then_some(u64::from(unit.clock));
-        let values = (clock, unit.floor, unit.command, requests);
-        let floor = machine.schedule.floor;
-        let due = (machine.clock, floor, machine.command, machine.requests);
-        assert_eq!(values, due, "{:#?}", lines());
-    }
-
-    /// Held months and their blocks must be the machine's.
-    fn compare_months(&self) {
-        let cause = if self.store.len() == STORE_LENGTH {
-            0
-        } else {
-            3
-        };
-        assert_eq!(firmware::check(self.unit, &self.store), cause);
-        let mut held: Vec<_> = self.unit.held().collect();
-        held.sort();
-        let months = held.iter().map(|(month, _)| *month);
-        assert!(months.eq(self.machine.schedule.held()), "held months");
-        for (month, block) in held {
-            let bytes = &self.store[block * BLOCK_LENGTH..][..BLOCK_LENGTH];
-            let due = self.machine.schedule.block_in_layers(month);
-            assert!(bytes == due, "rates of month {month}");
-        }
-    }
+    Pair::install(&id, settings, vec![input.byte(); length])
 }
 
 fn run(bytes: &[u8]) {

@@ -10,6 +10,7 @@ use compare::fast;
 use compare::firmware::{self, FileAnswer};
 use compare::generate::cases::values;
 use compare::generate::draft::{ascii, PLANT_X, SETTINGS_X};
+use compare::generate::frame::{Frame, BOUNDARY};
 use compare::generate::Random;
 use compare::reference::calendar::{digits_of_slot, first_slot, start_slot};
 use compare::reference::{write, Fields};
@@ -131,6 +132,36 @@ fn race_taking(title: &str, calls: u32, pair: &Both, file: &File) -> Row {
     )
 }
 
+/// 002's response around the file, into the months that the pair holds; each
+/// call finds the unit as it was before the first.
+fn race_response(title: &str, calls: u32, pair: &Both, file: &File) -> Row {
+    let response = Frame::figure(BOUNDARY, &file.name, &file.body).bytes();
+    let response = response.as_slice();
+    let (mut tried, mut by_file) = (pair.clone(), pair.clone());
+    assert_eq!(tried.take_response(BOUNDARY, response), 0);
+    assert_eq!(by_file.take_file(&file.name, &file.body), 0);
+    tried.compare();
+    assert!((tried.unit, &tried.store) == (by_file.unit, &by_file.store));
+    let (unit, mut store) = (pair.unit, pair.store.clone());
+    let mut fixed = pair.fixed.clone();
+    let requests = fixed.requests;
+    race(
+        title,
+        calls,
+        || {
+            let store = black_box(store.as_mut_slice());
+            let (boundary, response) = (black_box(BOUNDARY), black_box(response));
+            let done = firmware::take_response(*black_box(&unit), boundary, response, store);
+            black_box(&done);
+        },
+        || {
+            fixed.requests = requests;
+            let (boundary, response) = (black_box(BOUNDARY), black_box(response));
+            let _ = black_box(black_box(&mut fixed).take_response(boundary, response));
+        },
+    )
+}
+
 /// One second after the other; both clocks go on through the rounds.
 fn race_seconds(pair: &Both) -> Row {
     let (mut unit, store) = (pair.unit, pair.store.as_slice());
@@ -244,6 +275,12 @@ fn races() -> Vec<Row> {
         race_reading("update of 336 slots read", 100, &update),
         race_taking(&format!("{taking} replaced"), 4, &full, &yearly),
         race_taking(&format!("{taking} new"), 4, &empty, &yearly),
+        race_response(
+            "yearly response taken, 13 months replaced",
+            4,
+            &full,
+            &yearly,
+        ),
         race_taking("update of 336 slots read and taken", 20, &full, &update),
         race_seconds(&full),
         race_years(random),

@@ -1,7 +1,8 @@
 //! The library's answer to a call, in 01's words.
 
 use super::{
-    ceiling, clock_lost, command, due, fixed_failed, free_blocks, take_file, tick, update_failed,
+    ceiling, clock_lost, command, due, fixed_failed, free_blocks, take_file, take_response, tick,
+    update_failed,
 };
 use super::{CeilingAnswer, DueAnswer, Number, Unit, FIXED, NOTHING, UPDATE};
 use crate::call::{Answer, Call, Due};
@@ -9,7 +10,7 @@ use crate::call::{Answer, Call, Due};
 /// A cause as a refusal's number; of a number that is none, the answer's text.
 fn refused(cause: u32, answer: impl std::fmt::Debug) -> Result<Answer, String> {
     match u8::try_from(cause) {
-        Ok(cause @ 1..=16) => Ok(Answer::Refused(cause)),
+        Ok(cause @ 1..=17) => Ok(Answer::Refused(cause)),
         _ => Err(format!("no answer of 01: {answer:?}")),
     }
 }
@@ -48,6 +49,9 @@ pub fn answer(unit: &mut Unit, store: &mut [u8], call: &Call) -> Result<Answer, 
         Call::Tick { second } => tick(*unit, *second, store),
         Call::ClockLost => clock_lost(*unit),
         Call::TakeFile { name, body } => take_file(*unit, name, body, store),
+        Call::TakeResponse { boundary, response } => {
+            take_response(*unit, boundary, response, store)
+        }
         Call::UpdateFailed { status } => update_failed(*unit, *status),
         Call::FixedFailed { status } => fixed_failed(*unit, *status),
         Call::Due => return what_is_due(due(*unit)),

@@ -18,6 +18,10 @@ extern "C" {
         unit: Unit, name: *const u8, name_length: usize, body: *const u8, body_length: usize,
         store: *mut u8, store_length: usize,
     ) -> Done;
+    fn jag_take_response(
+        unit: Unit, boundary: *const u8, boundary_length: usize,
+        response: *const u8, response_length: usize, store: *mut u8, store_length: usize,
+    ) -> Done;
     fn jag_update_failed(unit: Unit, status: u64) -> Done;
     fn jag_fixed_failed(unit: Unit, status: u64) -> Done;
     fn jag_due(unit: Unit) -> DueAnswer;
@@ -69,6 +73,20 @@ pub fn take_file(unit: Unit, name: &[u8], body: &[u8], store: &mut [u8]) -> Done
             name.len(),
             body.as_ptr(),
             body.len(),
+            store.as_mut_ptr(),
+            store.len(),
+        )
+    }
+}
+
+pub fn take_response(unit: Unit, boundary: &[u8], response: &[u8], store: &mut [u8]) -> Done {
+    unsafe {
+        jag_take_response(
+            unit,
+            boundary.as_ptr(),
+            boundary.len(),
+            response.as_ptr(),
+            response.len(),
             store.as_mut_ptr(),
             store.len(),
         )

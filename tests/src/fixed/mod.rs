@@ -1,6 +1,6 @@
 //! The schedule unit with a fixed array for each month and no pool, as the
 //! old coding standard had it: what the library's times are compared with.
-//! Safe Rust, written for speed; its answers and its checks are 01's.
+//! Safe Rust, written for speed; its answers and its checks are the papers'.
 //!
 //! The unit owns its arrays, so cause 3 can't come: no length is given.
 
@@ -9,6 +9,7 @@ mod months;
 mod plant;
 mod questions;
 mod requests;
+pub mod response;
 mod take;
 mod tick;
 

@@ -25,6 +25,11 @@ impl Unit {
     pub fn take_file(&mut self, name: &[u8], body: &[u8]) -> Result<(), u8> {
         self.check()?;
         self.now()?;
+        self.take_checked(name, body)
+    }
+
+    /// The same on a sound unit whose clock is set.
+    pub(super) fn take_checked(&mut self, name: &[u8], body: &[u8]) -> Result<(), u8> {
         // Whatever the rest of the name, a 301 isn't taken.
         if name.starts_with(b"301") {
             return Err(7);

@@ -4,7 +4,7 @@
 use super::draft::{check_digit, PLANT_X};
 use super::random::Random;
 use super::shapes::{Shape, SHAPES};
-use super::{files, instants, outputs};
+use super::{files, instants, outputs, responses};
 use crate::call::Call;
 use crate::firmware::{Settings, STORE_LENGTH};
 use crate::reference::Machine;
@@ -105,7 +105,10 @@ impl Calls {
                 second: instants::second(machine, self.last, &self.shape.ticks, random),
             },
             1 => Call::ClockLost,
-            2 => files::file(machine, self.last, self.shape, random),
+            2 => {
+                let (name, body) = files::file(machine, self.last, self.shape, random);
+                Call::TakeFile { name, body }
+            }
             3 => Call::UpdateFailed {
                 status: instants::status(random),
             },
@@ -117,7 +120,12 @@ impl Calls {
                 slot: instants::slot(machine, self.last, random),
             },
             7 => Call::Command,
-            _ => Call::FreeBlocks,
+            8 => Call::FreeBlocks,
+            _ => {
+                let (name, body) = files::file(machine, self.last, self.shape, random);
+                let (boundary, response) = responses::response(&name, &body, random);
+                Call::TakeResponse { boundary, response }
+            }
         }
     }
 }

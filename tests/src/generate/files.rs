@@ -6,7 +6,6 @@ use super::damage::all_damage;
 use super::draft::{ascii, Draft};
 use super::random::Random;
 use super::shapes::Shape;
-use crate::call::Call;
 use crate::reference::schedule::month_of_second;
 use crate::reference::Machine;
 
@@ -110,15 +109,15 @@ fn draft(format: u16, machine: &Machine, now: u64, shape: &Shape, random: &mut R
     }
 }
 
-fn taken(draft: &Draft) -> Call {
-    Call::TakeFile {
-        name: draft.name.bytes(),
-        body: draft.body(),
-    }
+/// Name and body.
+type File = (Vec<u8>, Vec<u8>);
+
+fn whole(draft: &Draft) -> File {
+    (draft.name.bytes(), draft.body())
 }
 
 /// A file with one kind of damage.
-fn damaged(machine: &Machine, now: u64, shape: &Shape, random: &mut Random) -> Call {
+fn damaged(machine: &Machine, now: u64, shape: &Shape, random: &mut Random) -> File {
     let all: Vec<_> = all_damage().collect();
     let damage = random.pick(&all);
     let mut format = random.pick(&[201, 202, 202, 203, 203, 203, 203]);
@@ -127,14 +126,14 @@ fn damaged(machine: &Machine, now: u64, shape: &Shape, random: &mut Random) -> C
     }
     let mut draft = draft(format, machine, now, shape, random);
     (damage.apply)(&mut draft, random);
-    taken(&draft)
+    whole(&draft)
 }
 
 /// A file with a byte of its name or of its body's head changed.
-fn changed(machine: &Machine, now: u64, shape: &Shape, random: &mut Random) -> Call {
+fn changed(machine: &Machine, now: u64, shape: &Shape, random: &mut Random) -> File {
     let format = random.pick(&[202, 203, 203]);
     let draft = draft(format, machine, now, shape, random);
-    let (mut name, mut body) = (draft.name.bytes(), draft.body());
+    let (mut name, mut body) = whole(&draft);
     let bytes = match random.once_in(3) {
         true => &mut name,
         false => &mut body,
@@ -143,7 +142,7 @@ fn changed(machine: &Machine, now: u64, shape: &Shape, random: &mut Random) -> C
     let place = random.below(reach as u64) as usize;
     let end = random.pick(&[10, 102, 256]);
     bytes[place] = random.below(end) as u8;
-    Call::TakeFile { name, body }
+    (name, body)
 }
 
 /// A registration, which no unit takes: for its plant, for another, broken.
@@ -161,21 +160,21 @@ fn registration(machine: &Machine, random: &mut Random) -> Draft {
 /// A file to be taken. The weights stand for: yearly, monthly, update, with
 /// one kind of damage, with a byte changed, and those that a unit doesn't take
 /// although they read well.
-pub fn file(machine: &Machine, last: u64, shape: &Shape, random: &mut Random) -> Call {
+pub fn file(machine: &Machine, last: u64, shape: &Shape, random: &mut Random) -> File {
     let now = machine.clock.unwrap_or(last);
     match random.weighted(&shape.files) {
-        0 => taken(&draft(201, machine, now, shape, random)),
-        1 => taken(&draft(202, machine, now, shape, random)),
-        2 => taken(&draft(203, machine, now, shape, random)),
+        0 => whole(&draft(201, machine, now, shape, random)),
+        1 => whole(&draft(202, machine, now, shape, random)),
+        2 => whole(&draft(203, machine, now, shape, random)),
         3 => damaged(machine, now, shape, random),
         4 => changed(machine, now, shape, random),
-        _ if random.once_in(2) => taken(&registration(machine, random)),
+        _ if random.once_in(2) => whole(&registration(machine, random)),
         _ => {
             let mut other = Draft::valid(203, random);
             if other.owner == machine.id {
                 other.name.plant = ascii(&random.digits(26));
             }
-            taken(&other)
+            whole(&other)
         }
     }
 }

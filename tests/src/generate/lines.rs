@@ -29,6 +29,14 @@ fn word(bytes: &[u8], random: &mut Random) -> Vec<u8> {
     format!("hex:{}", hex(bytes, random)).into_bytes()
 }
 
+/// HEX: hex digits, `-` for none.
+fn digits(bytes: &[u8], random: &mut Random) -> String {
+    match bytes.is_empty() {
+        true => "-".to_string(),
+        false => hex(bytes, random),
+    }
+}
+
 fn joined(words: &[&[u8]]) -> Vec<u8> {
     words.join(&b' ')
 }
@@ -39,11 +47,12 @@ pub fn call_line(call: &Call, random: &mut Random) -> Vec<u8> {
         Call::Tick { second } => format!("tick {second}").into_bytes(),
         Call::ClockLost => b"lost".to_vec(),
         Call::TakeFile { name, body } => {
-            let digits = match body.is_empty() {
-                true => "-".to_string(),
-                false => hex(body, random),
-            };
-            joined(&[b"take", &word(name, random), digits.as_bytes()])
+            let name = word(name, random);
+            joined(&[b"take", &name, digits(body, random).as_bytes()])
+        }
+        Call::TakeResponse { boundary, response } => {
+            let boundary = word(boundary, random);
+            joined(&[b"response", &boundary, digits(response, random).as_bytes()])
         }
         Call::UpdateFailed { status } => format!("failure update {status}").into_bytes(),
         Call::FixedFailed { status } => format!("failure fixed {status}").into_bytes(),
@@ -84,7 +93,7 @@ pub fn request_line(segment: &[u8], random: &mut Random) -> Vec<u8> {
 }
 
 /// Lines that are no call.
-pub const NO_CALLS: [&[u8]; 12] = [
+pub const NO_CALLS: [&[u8]; 15] = [
     b"nothing",
     b"tick",
     b"tick ",
@@ -94,6 +103,9 @@ pub const NO_CALLS: [&[u8]; 12] = [
     b" due",
     b"take a",
     b"take a 0",
+    b"response B",
+    b"response B 0d0",
+    b"response  00",
     b"failure both 0",
     b"store 32769 0",
     b"request ",

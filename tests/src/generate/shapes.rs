@@ -10,7 +10,7 @@ pub struct Shape {
     pub words: &'static str,
     /// The second around which the list begins.
     pub home: fn(&mut Random) -> u64,
-    pub calls: [u64; 9],
+    pub calls: [u64; 10],
     pub ticks: [u64; 12],
     pub files: [u64; 6],
     /// How many months below and above the clock's a file may begin.
@@ -57,7 +57,7 @@ pub static SHAPES: &[Shape] = &[
     Shape {
         words: "days in order",
         home: around_any_month,
-        calls: [8, 1, 5, 1, 1, 3, 4, 1, 1],
+        calls: [8, 1, 5, 1, 1, 3, 4, 1, 1, 3],
         ticks: [1, 4, 6, 8, 6, 2, 1, 0, 1, 0, 0, 1],
         files: [1, 3, 8, 2, 1, 1],
         reach: (1, 2),
@@ -65,7 +65,7 @@ pub static SHAPES: &[Shape] = &[
     Shape {
         words: "turn of the year",
         home: around_year_turn,
-        calls: [8, 1, 7, 1, 1, 2, 5, 1, 2],
+        calls: [8, 1, 7, 1, 1, 2, 5, 1, 2, 4],
         ticks: [1, 2, 2, 4, 8, 6, 6, 0, 2, 2, 0, 1],
         files: [5, 6, 5, 2, 1, 1],
         reach: (2, 14),
@@ -73,7 +73,7 @@ pub static SHAPES: &[Shape] = &[
     Shape {
         words: "February",
         home: around_february,
-        calls: [8, 1, 7, 1, 1, 2, 5, 1, 2],
+        calls: [8, 1, 7, 1, 1, 2, 5, 1, 2, 3],
         ticks: [1, 2, 2, 4, 10, 8, 3, 1, 2, 1, 0, 1],
         files: [2, 6, 8, 2, 1, 1],
         reach: (2, 3),
@@ -81,7 +81,7 @@ pub static SHAPES: &[Shape] = &[
     Shape {
         words: "full store",
         home: around_any_month,
-        calls: [3, 1, 16, 1, 1, 1, 5, 1, 4],
+        calls: [3, 1, 16, 1, 1, 1, 5, 1, 4, 6],
         ticks: [1, 2, 2, 2, 4, 4, 8, 0, 2, 2, 0, 1],
         files: [4, 12, 5, 1, 1, 1],
         reach: (2, 18),
@@ -89,7 +89,7 @@ pub static SHAPES: &[Shape] = &[
     Shape {
         words: "retries",
         home: around_any_month,
-        calls: [8, 1, 2, 2, 8, 12, 1, 1, 1],
+        calls: [8, 1, 2, 2, 8, 12, 1, 1, 1, 2],
         ticks: [1, 2, 8, 3, 16, 2, 0, 0, 2, 0, 0, 1],
         files: [2, 1, 10, 1, 0, 1],
         reach: (1, 1),
@@ -97,7 +97,7 @@ pub static SHAPES: &[Shape] = &[
     Shape {
         words: "clock steps",
         home: around_any_month,
-        calls: [12, 3, 6, 1, 1, 2, 5, 2, 2],
+        calls: [12, 3, 6, 1, 1, 2, 5, 2, 2, 3],
         ticks: [2, 2, 2, 4, 4, 4, 4, 1, 8, 8, 2, 1],
         files: [3, 4, 6, 2, 1, 1],
         reach: (3, 6),
@@ -105,7 +105,7 @@ pub static SHAPES: &[Shape] = &[
     Shape {
         words: "long ticks",
         home: some_moment,
-        calls: [10, 1, 6, 1, 1, 2, 5, 2, 2],
+        calls: [10, 1, 6, 1, 1, 2, 5, 2, 2, 3],
         ticks: [1, 1, 1, 2, 2, 4, 6, 6, 2, 6, 4, 2],
         files: [4, 4, 4, 2, 1, 1],
         reach: (2, 14),
@@ -113,7 +113,7 @@ pub static SHAPES: &[Shape] = &[
     Shape {
         words: "first and last days",
         home: around_ends,
-        calls: [8, 1, 6, 2, 3, 4, 5, 1, 2],
+        calls: [8, 1, 6, 2, 3, 4, 5, 1, 2, 3],
         ticks: [1, 3, 3, 4, 8, 4, 3, 1, 3, 2, 1, 4],
         files: [3, 5, 6, 2, 1, 1],
         reach: (13, 13),
@@ -121,7 +121,7 @@ pub static SHAPES: &[Shape] = &[
     Shape {
         words: "damaged files",
         home: around_any_month,
-        calls: [5, 1, 16, 1, 1, 1, 3, 1, 1],
+        calls: [5, 1, 16, 1, 1, 1, 3, 1, 1, 10],
         ticks: [1, 2, 2, 4, 4, 4, 4, 0, 2, 2, 0, 2],
         files: [1, 2, 3, 20, 6, 2],
         reach: (2, 14),

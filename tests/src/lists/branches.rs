@@ -7,12 +7,13 @@ use super::counts::Counts;
 use crate::call::{Answer, Call};
 use crate::reference::calendar::END;
 use crate::reference::requests::{is_client_error, Reason, Requests};
+use crate::reference::response::{open, Broken};
 use crate::reference::schedule::{month_of_second, months_of};
 use crate::reference::{read, Machine, Segment};
 use crate::tally::Branches;
 
 /// Every branch that must come.
-pub const BRANCHES: [&str; 52] = [
+pub const BRANCHES: [&str; 70] = [
     "made up: a month held without a rate",
     "tick: clock was unset",
     "tick: the same second",
@@ -44,6 +45,24 @@ pub const BRANCHES: [&str; 52] = [
     "file: registration for the plant, refused with 7",
     "file: registration for another plant, refused with 7",
     "file: broken registration, refused with 7",
+    "response: its boundary's length",
+    "response: a byte of its boundary",
+    "response: its end",
+    "response: its first line",
+    "response: no empty line",
+    "response: no length",
+    "response: two lengths",
+    "response: a length's digits",
+    "response: no disposition",
+    "response: two dispositions",
+    "response: no filename=",
+    "response: another length than its file's",
+    "response: well formed, 0D 0A at its end",
+    "response: well formed, no 0D 0A at its end",
+    "response: yearly taken",
+    "response: monthly taken",
+    "response: update taken",
+    "response: its file refused with 14",
     "update failed: 400-499",
     "update failed: other",
     "update failed: u past T",
@@ -113,10 +132,13 @@ fn registration(machine: &Machine, name: &[u8], body: &[u8]) -> Option<&'static 
     }
 }
 
-/// Counts the branches of a call, of a refused one only those of cause 14 and
-/// of registrations.
+/// Counts the branches of a call, of a refused one only those of responses, of
+/// cause 14 and of registrations.
 pub fn note(before: &Before, machine: &Machine, call: &Call, answer: Answer, counts: &mut Counts) {
     let branches = &mut counts.branches;
+    if let Call::TakeResponse { boundary, response } = call {
+        note_response(machine, (boundary, response), answer, branches);
+    }
     match (call, answer) {
         (Call::TakeFile { name, .. }, Answer::Refused(14)) => branches.add(match name[2] {
             b'1' => "file: yearly, refused with 14",
@@ -134,7 +156,9 @@ pub fn note(before: &Before, machine: &Machine, call: &Call, answer: Answer, cou
             Some(_) => "clock lost: was set",
             None => "clock lost: was unset",
         }),
-        (Call::TakeFile { .. }, _) => note_file(before, machine, branches),
+        (Call::TakeFile { .. } | Call::TakeResponse { .. }, _) => {
+            note_file(before, machine, branches)
+        }
         (Call::UpdateFailed { status } | Call::FixedFailed { status }, _) => {
             note_failure(before, machine, call, *status, branches)
         }
@@ -174,6 +198,53 @@ fn note_failure(
     }
     if !update && machine.requests.fixed_at >= END {
         branches.add("fixed failed: f past T");
+    }
+}
+
+/// What breaks the form of a response, as the table has it.
+fn broken_words(broken: Broken) -> &'static str {
+    match broken {
+        Broken::BoundaryLength => "response: its boundary's length",
+        Broken::BoundaryByte => "response: a byte of its boundary",
+        Broken::End => "response: its end",
+        Broken::FirstLine => "response: its first line",
+        Broken::NoEmptyLine => "response: no empty line",
+        Broken::NoLength => "response: no length",
+        Broken::TwoLengths => "response: two lengths",
+        Broken::LengthDigits => "response: a length's digits",
+        Broken::NoDisposition => "response: no disposition",
+        Broken::TwoDispositions => "response: two dispositions",
+        Broken::NoName => "response: no filename=",
+        Broken::OtherLength => "response: another length than its file's",
+    }
+}
+
+/// The branches of a response, where store and clock let it be looked at.
+fn note_response(
+    machine: &Machine,
+    (boundary, response): (&[u8], &[u8]),
+    answer: Answer,
+    branches: &mut Branches,
+) {
+    if let Answer::Refused(3 | 5) = answer {
+        return;
+    }
+    if let Err(broken) = open(boundary, response) {
+        branches.add(broken_words(broken));
+        return;
+    }
+    branches.add(match response.ends_with(b"\r\n") {
+        true => "response: well formed, 0D 0A at its end",
+        false => "response: well formed, no 0D 0A at its end",
+    });
+    match (answer, machine.schedule.files.last()) {
+        (Answer::Refused(14), _) => branches.add("response: its file refused with 14"),
+        (Answer::Accepted, Some(file)) => branches.add(match file.segment {
+            Segment::Yearly { .. } => "response: yearly taken",
+            Segment::Monthly { .. } => "response: monthly taken",
+            _ => "response: update taken",
+        }),
+        _ => {}
     }
 }
 

@@ -11,10 +11,11 @@ use crate::tally::{Branches, Tally};
 
 /// The calls with the causes that each may be refused with, where unit and
 /// store are sound.
-const CAUSES: [(&str, &[u8]); 9] = [
+const CAUSES: [(&str, &[u8]); 10] = [
     ("tick", &[3, 6]),
     ("clock lost", &[]),
     ("file taken", &[3, 5, 7, 8, 9, 10, 11, 12, 13, 14]),
+    ("response taken", &[3, 5, 17, 7, 8, 9, 10, 11, 12, 13, 14]),
     ("update failed", &[5, 6]),
     ("fixed failed", &[5, 6]),
     ("due", &[5]),
@@ -29,6 +30,8 @@ pub struct Counts {
     /// Ticks made again by one-second ticks, and the longest of them.
     pub single_ticks: u64,
     pub longest_single: u64,
+    /// Well-formed responses, each held to its file taken in its place.
+    pub responses: u64,
     pub shapes: Branches,
     pub branches: Branches,
     pub windows: Branches,
@@ -97,5 +100,7 @@ impl Counts {
             self.single_ticks, self.longest_single
         );
         assert!(self.single_ticks > 0);
+        println!("{} responses as their files taken", self.responses);
+        assert!(self.responses > 0);
     }
 }

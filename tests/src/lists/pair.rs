@@ -8,6 +8,7 @@ use crate::generate::calls::Installing;
 use crate::generate::{outputs, Random};
 use crate::lent::Lent;
 use crate::reference::request::request;
+use crate::reference::response::open;
 use crate::reference::schedule::months_of;
 use crate::reference::soundness::{machine_of, verdict};
 use crate::reference::Machine;
@@ -79,7 +80,7 @@ pub fn blocks_agree(unit: &Unit, store: &[u8], machine: &Machine) -> Result<(), 
 }
 
 /// 'File taken alone writes to it, only in blocks of months that its file
-/// covers.'
+/// covers'; and a response taken, as its file.
 pub fn writes_agree(
     unit: &Unit,
     machine: &Machine,
@@ -90,7 +91,7 @@ pub fn writes_agree(
     if after == before {
         return Ok(());
     }
-    let taken = matches!(call, Call::TakeFile { .. }) && answer == Answer::Accepted;
+    let taken = call.takes_a_file() && answer == Answer::Accepted;
     let Some(file) = machine.schedule.files.last().filter(|_| taken) else {
         return Err("store: library wrote, reference doesn't".to_string());
     };
@@ -162,12 +163,35 @@ impl Pair {
         let stores = [store_before.as_slice(), self.store.held()];
         writes_agree(&self.unit, &self.machine, call, due, stores)?;
         agree(&self.unit, &self.machine)?;
+        if let Call::TakeResponse { boundary, response } = call {
+            self.taken_as_file(unit_before, store_before, (boundary, response), due, counts)?;
+        }
         counts.call(call.title(), due);
         branches::note(&before, &self.machine, call, due, counts);
         if let (Call::Tick { second }, Answer::Accepted) = (call, due) {
             self.tick_by_seconds(&unit_before, *second, random, counts)?;
         }
         Ok(())
+    }
+
+    /// 'Taking a response is then taking that name and file': answer, unit and
+    /// store are those that its file, taken in its place, leaves.
+    fn taken_as_file(
+        &self,
+        unit: Unit,
+        mut store: Vec<u8>,
+        (boundary, response): (&[u8], &[u8]),
+        answer: Answer,
+        counts: &mut Counts,
+    ) -> Result<(), String> {
+        let Ok(part) = open(boundary, response) else {
+            return Ok(());
+        };
+        let done = firmware::take_file(unit, part.name, part.file, &mut store);
+        counts.responses += 1;
+        same("its file's answer", done.cause, u32::from(answer.cause()))?;
+        same("unit after its file", done.unit, self.unit)?;
+        same("store after its file", store == self.store.held(), true)
     }
 
     /// Demand 3: 'an accepted tick over n seconds and n one-second ticks in

@@ -6,6 +6,7 @@ use super::counts::Counts;
 use super::pair::{agree, blocks_agree, check_request, same, writes_agree, Pair};
 use crate::call::{Answer, Call};
 use crate::firmware::{self, Unit, STORE_LENGTH};
+use crate::generate::frame::{Frame, BOUNDARY};
 use crate::generate::outputs::Install;
 use crate::generate::spoil::{all_spoils, Outcome, Spoil};
 use crate::generate::Random;
@@ -98,10 +99,15 @@ pub fn install(install: &Install, counts: &mut Counts) -> Result<(), String> {
     same("soundness of no unit", verdict(&done.unit, None), Err(4))?;
     let store = vec![255; STORE_LENGTH];
     let (name, body) = crate::generate::cases::example_10();
+    let response = Frame::figure(BOUNDARY, &name, &body).bytes();
     let calls = [
         Call::Tick { second: 0 },
         Call::ClockLost,
         Call::TakeFile { name, body },
+        Call::TakeResponse {
+            boundary: BOUNDARY.to_vec(),
+            response,
+        },
         Call::UpdateFailed { status: 0 },
         Call::FixedFailed { status: 404 },
         Call::Due,

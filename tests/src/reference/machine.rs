@@ -4,6 +4,7 @@ use super::body::read_to_take;
 use super::calendar::{END, SLOTS};
 use super::plant::{self, percent};
 use super::requests::Requests;
+use super::response;
 use super::schedule::Schedule;
 use crate::call::{Answer, Call};
 use crate::firmware::Settings;
@@ -85,6 +86,7 @@ impl Machine {
                 self.command = 0;
             }
             Call::TakeFile { name, body } => self.take_file(name, body)?,
+            Call::TakeResponse { boundary, response } => self.take_response(boundary, response)?,
             Call::UpdateFailed { status } => {
                 let clock = self.clock.ok_or(5)?;
                 check_status(*status)?;
@@ -121,6 +123,14 @@ impl Machine {
         self.requests.take(&file);
         self.schedule.files.push(file);
         Ok(())
+    }
+
+    /// 'A response that breaks this form is refused with 17, after 5 and before
+    /// 7, by the machine as well.'
+    fn take_response(&mut self, boundary: &[u8], response: &[u8]) -> Result<(), u8> {
+        self.clock.ok_or(5)?;
+        let part = response::open(boundary, response).map_err(|_| 17)?;
+        self.take_file(part.name, part.file)
     }
 
     fn ceiling(&self, slot: u64) -> Result<Answer, u8> {

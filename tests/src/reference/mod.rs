@@ -1,6 +1,6 @@
-//! Document 01's rules for names, bodies and the outputs beside the unit, and
-//! its plain machine, written down as plainly as possible. Clarity before
-//! speed.
+//! Document 01's rules for names, bodies and the outputs beside the unit, its
+//! plain machine, and document 02's whole responses, written down as plainly
+//! as possible. Clarity before speed.
 
 pub mod body;
 pub mod calendar;
@@ -12,6 +12,7 @@ pub mod plant;
 pub mod ramp;
 pub mod request;
 pub mod requests;
+pub mod response;
 pub mod schedule;
 pub mod soundness;
 pub mod writer;

@@ -53,7 +53,7 @@ fn hex(digits: &[u8]) -> Option<Vec<u8>> {
     digits.chunks(2).map(byte).collect()
 }
 
-/// MAC, NAME and SEGMENT: `hex:` and hex digits, or the bytes themselves.
+/// MAC, NAME, BOUNDARY and SEGMENT: `hex:` and hex digits, or the bytes themselves.
 fn bytes(word: &[u8]) -> Option<Vec<u8>> {
     match word.strip_prefix(b"hex:") {
         Some(digits) => hex(digits),
@@ -72,7 +72,7 @@ fn digits(word: &[u8]) -> Option<Vec<u8>> {
     Some(bytes)
 }
 
-/// HEX: the body's bytes, `-` for none.
+/// HEX: the bytes of a body or a response, `-` for none.
 fn body(word: &[u8]) -> Option<Vec<u8>> {
     match word {
         b"" => None,
@@ -90,6 +90,10 @@ fn call(words: &[&[u8]]) -> Option<Call> {
         [b"take", name, hex] => Call::TakeFile {
             name: bytes(name)?,
             body: body(hex)?,
+        },
+        [b"response", boundary, hex] => Call::TakeResponse {
+            boundary: bytes(boundary)?,
+            response: body(hex)?,
         },
         [b"failure", b"update", status] => Call::UpdateFailed {
             status: number(status)?,
