@@ -8,8 +8,8 @@ use script_words::number_of;
 use script_words::word;
 use script_words::word_count;
 
-// A call with its numbers; the words that stand for bytes are still to be read. An ID and a MAC, a NAME and a body's digits are words 1
-// and 2 of their lines, a SEGMENT is word 1.
+// A call with its numbers; the words that stand for bytes are still to be read. An ID and a MAC, a NAME and a body's digits, a BOUNDARY and a
+// response's digits are words 1 and 2 of their lines, a SEGMENT is word 1.
 pub enum Ask {
     Nothing,
     Unknown,
@@ -19,6 +19,7 @@ pub enum Ask {
     Tick(u64),
     Lost,
     Take,
+    Response,
     Failure(Kind, u64),
     Ceiling(u64),
     Due,
@@ -186,6 +187,9 @@ fn ask_three(call: &[u8], first: &[u8], second: &[u8]) -> Ask
     }
     if digits::same(call, b"take") {
         return Ask::Take;
+    }
+    if digits::same(call, b"response") {
+        return Ask::Response;
     }
     if digits::same(call, b"failure") {
         return failure_ask(first, number_of(second));
