@@ -2,7 +2,7 @@
 use mathlib.Core.Path.{_≡_, refl, ap, _∙_}
 use mathlib.Core.List.{List, [], _∷_}
 use Rattle.rules.specs.Causes.{Reply}
-use Rattle.rules.specs.Machine.{Call, tick, clockLost, fileTaken, failure, due, ceilingOf, command, freeBlocks}
+use Rattle.rules.specs.Machine.{Call, tick, clockLost, fileTaken, responseTaken, failure, due, ceilingOf, command, freeBlocks}
 use Rattle.schedule.specs.Stored.{Stored}
 use Rattle.about_store.proofs.View.{View, Shows}
 use Rattle.about_store.proofs.Shown.{Plain}
@@ -10,13 +10,14 @@ use Rattle.calls.specs.Step.{State, Step, replies, after}
 use Rattle.about_alike.proofs.Outcomes.{Beside, Good, made, Outcome}
 use Rattle.about_alike.proofs.Questions.{command-outcome, free-outcome, due-outcome, ceiling-outcome, lost-outcome, failure-outcome}
 use Rattle.about_alike.proofs.Ticking.{tick-outcome}
-use Rattle.about_alike.proofs.Taking.{take-outcome}
+use Rattle.about_alike.proofs.Taking.{take-outcome, response-outcome}
 
 -- every call
 pub call-outcome : (c : Call) (r : Beside) (v : View) → Good r → Plain v → Outcome c r v
 call-outcome (tick t) r v good plain = tick-outcome r v good plain t
 call-outcome clockLost r v good plain = lost-outcome r v good plain
 call-outcome (fileTaken name body) r v good plain = take-outcome r v good plain name body
+call-outcome (responseTaken boundary bytes) r v good plain = response-outcome r v good plain boundary bytes
 call-outcome (failure kind status) r v good plain = failure-outcome r v good plain kind status
 call-outcome due r v good plain = due-outcome r v good plain
 call-outcome (ceilingOf slot) r v good plain = ceiling-outcome r v good plain slot

@@ -1,4 +1,4 @@
--- The outcome of a file: there is room for it in all that show one view or in none, and its records are put alike.
+-- The outcome of a file, by itself or in a response: there is room for it in all that show one view or in none, and its records are put alike.
 use Prim.Native.Nat.{ℕ, _-_, _<_}
 use mathlib.Core.Path.{_≡_, refl, sym, ap, _∙_}
 use mathlib.Core.Bool.{Bool, true, false}
@@ -9,11 +9,12 @@ use borrow.Author.Tests.{ltb-true, ltb-false}
 use Rattle.rules.specs.Calendar.{endOfTime, monthCount}
 use Rattle.rules.specs.Body.{Record}
 use Rattle.rules.specs.File.{File, Outcome as Read, refuse, file, takeFile, recordsIn}
+use Rattle.rules.specs.Response.{takeResponse}
 use Rattle.rules.specs.Store.{blockCount, soundClock}
 use Rattle.rules.specs.Causes.{accepted, refused, numberOf}
-use Rattle.rules.specs.Machine.{fileTaken, takeBy, countBelow}
+use Rattle.rules.specs.Machine.{Call, fileTaken, responseTaken, takeBy, countBelow}
 use Rattle.rules.specs.declared.Cause.{Cause}
-use Rattle.about_files.proofs.Accepted.{taken}
+use Rattle.about_files.proofs.Accepted.{taken, TakenBy}
 use Rattle.polling.specs.Requests.{requestsOf}
 use Rattle.schedule.specs.Stored.{Stored}
 use Rattle.about_store.specs.Run.{RunFrom, runStart, putRecords}
@@ -27,25 +28,25 @@ use Rattle.unit.specs.Values.{clockOf}
 use Rattle.unit.specs.Rows.{isUnset}
 use Rattle.unit.specs.Calls.{clockTime}
 use Rattle.taking.specs.Taken.{withFile, storeWith, fullRow}
-use Rattle.calls.specs.Step.{State}
+use Rattle.calls.specs.Step.{State, step}
 use Rattle.unit.specs.declared.Clock.{Clock}
 use Rattle.unit.specs.declared.Clock.the-variants.{Unset, At}
 use Rattle.about_calls.proofs.UnitLaws as unit
 use Rattle.about_calls.proofs.Asks.{asks-facts, facts-asks}
-use Rattle.about_calls.proofs.Taking.{file-asks}
+use Rattle.about_calls.proofs.Taking.{file-asks, Carries, file-carries, response-carries}
 use Rattle.about_alike.proofs.Outcomes.{Beside, Good, unitOf, made, made-sound, made-full, made-lent, Outcome, same-state}
 
 clock-low : (c : Clock) → soundClock (clockOf c) ≡ true → clockTime c < endOfTime
 clock-low Unset e = omega arith
 clock-low (At t) e = ltb-true t endOfTime e
 
-module _ (r : Beside) (v : View) (good : Good r) (plain : Plain v) (name body : List ℕ) where
-  module _ (f : File) (read : takeFile (r .plant .id) name body ≡ file f) where
+module _ (r : Beside) (v : View) (good : Good r) (plain : Plain v) where
+  module _ (f : File) (by : TakenBy (r .plant .id) f) where
     abbrev rs : List Record
     rs = recordsIn (f .body)
 
     run : RunFrom (runStart rs) rs
-    run = taken-good (r .plant .id) name body f read
+    run = taken-good (r .plant .id) (by .name) (by .body) f (by .read)
 
     -- 14 applies
     abbrev isFull : Bool
@@ -71,7 +72,8 @@ module _ (r : Beside) (v : View) (good : Good r) (plain : Plain v) (name body : 
     beside-good = record {
       plant = good .plant;
       requests = facts-asks _ _
-          (file-asks _ (clockTime (r .clock)) (clock-low (r .clock) (good .clock)) body f (requestsOf (r .requests)) (taken (r .plant .id) name body f read)
+          (file-asks _ (clockTime (r .clock)) (clock-low (r .clock) (good .clock)) (by .body) f (requestsOf (r .requests))
+          (taken (r .plant .id) (by .name) (by .body) f (by .read))
           (asks-facts _ (requestsOf (r .requests)) (good .requests)));
       clock = good .clock;
       command = good .command;
@@ -98,37 +100,57 @@ module _ (r : Beside) (v : View) (good : Good r) (plain : Plain v) (name body : 
         let room = ltb-false (blockCount - countBelow monthCount (v .held)) (lacking v rs run) e in
         records-shows (runStart rs) rs run st v h (omega (arith, held-more v rs run, count-view st v h))
 
-  pub take-outcome : Outcome (fileTaken name body) r v
-  take-outcome = by-clock (r .clock) refl
+  -- whatever was read, where it is what the call takes
+  taken-outcome : (c : Call) (o : Read) → Carries (r .plant .id) o → ((st : Stored) → step c (made r v st) ≡ unit.takenStep o (made r v st)) → Outcome c r v
+  taken-outcome c o from is = by-clock (r .clock) refl
     where
-      by-room : (t : ℕ) → r .clock ≡ At t → (f : File) (e : takeFile (r .plant .id) name body ≡ file f) (b : Bool) → isFull f e ≡ b → Outcome (fileTaken name body) r v
-      by-room t c f e true g =
-          same-state (fileTaken name body) r v good plain (refused (numberOf Cause.Full))
-          (λ st h.
-          unit.take-full (made r v st) (made-full r v good plain st h) (made-sound r v good plain st h) (made-lent r v good plain st h) (ap isUnset c) name body f e (full-view f e st h ∙ g)
-          ∙ ap (λ x. unit.refusal x (made r v st)) (full-cause f e st))
-      by-room t c f e false g = record {
+      by-room : (t : ℕ) → r .clock ≡ At t → (f : File) → o ≡ file f → (by : TakenBy (r .plant .id) f) (b : Bool) → isFull f by ≡ b → Outcome c r v
+      by-room t k f e by true g =
+          same-state c r v good plain (refused (numberOf Cause.Full))
+          (λ st h. let s = made r v st in
+          is st
+          ∙ ap (λ (x : Read). unit.takenStep x s) e
+          ∙ unit.take-full s (made-full r v good plain st h) (made-sound r v good plain st h) (made-lent r v good plain st h) (ap isUnset k) f (full-view f by st h ∙ g)
+          ∙ ap (λ x. unit.refusal x s) (full-cause f by st))
+      by-room t k f e by false g = record {
         reply = accepted;
-        beside = beside f e;
+        beside = beside f by;
         view = recordsView (recordsIn (f .body)) v;
-        good = beside-good f e;
-        plain = records-plain v (recordsIn (f .body)) (run f e) plain;
-        each = λ st h. record {
+        good = beside-good f by;
+        plain = records-plain v (recordsIn (f .body)) (run f by) plain;
+        each = λ st h. let s = made r v st in
+        record {
           stored = putRecords (v .floor) (recordsIn (f .body)) st;
-          is = unit.take-done (made r v st) (made-full r v good plain st h) (made-sound r v good plain st h) (made-lent r v good plain st h) (ap isUnset c) name body f e (full-view f e st h ∙ g)
-              ∙ ap (λ (s : State). (accepted, s)) (after-is f e st);
-          shows = put-shows f e g st h;
+          is = is st
+              ∙ ap (λ (x : Read). unit.takenStep x s) e
+              ∙ unit.take-done s (made-full r v good plain st h) (made-sound r v good plain st h) (made-lent r v good plain st h) (ap isUnset k) f (full-view f by st h ∙ g)
+              ∙ ap (λ (x : State). (accepted, x)) (after-is f by st);
+          shows = put-shows f by g st h;
         };
       }
 
-      by-reading : (t : ℕ) → r .clock ≡ At t → (o : Read) → takeFile (r .plant .id) name body ≡ o → Outcome (fileTaken name body) r v
-      by-reading t c (refuse x) e =
-          same-state (fileTaken name body) r v good plain (refused (numberOf x))
-          (λ st h. unit.take-refused (made r v st) (made-full r v good plain st h) (made-sound r v good plain st h) (made-lent r v good plain st h) (ap isUnset c) name body x e)
-      by-reading t c (file f) e = by-room t c f e (isFull f e) refl
+      by-reading : (t : ℕ) → r .clock ≡ At t → (x : Read) → o ≡ x → Outcome c r v
+      by-reading t k (refuse x) e =
+          same-state c r v good plain (refused (numberOf x))
+          (λ st h. let s = made r v st in
+          is st
+          ∙ ap (λ (y : Read). unit.takenStep y s) e
+          ∙ unit.take-refused s (made-full r v good plain st h) (made-sound r v good plain st h) (made-lent r v good plain st h) (ap isUnset k) x)
+      by-reading t k (file f) e = by-room t k f e (from f e) (isFull f (from f e)) refl
 
-      by-clock : (c : Clock) → r .clock ≡ c → Outcome (fileTaken name body) r v
-      by-clock Unset c =
-          same-state (fileTaken name body) r v good plain (refused (numberOf Cause.ClockUnset))
-          (λ st h. unit.take-unset (made r v st) (made-full r v good plain st h) (made-sound r v good plain st h) (made-lent r v good plain st h) (ap isUnset c) name body)
-      by-clock (At t) c = by-reading t c (takeFile (r .plant .id) name body) refl
+      by-clock : (k : Clock) → r .clock ≡ k → Outcome c r v
+      by-clock Unset k =
+          same-state c r v good plain (refused (numberOf Cause.ClockUnset))
+          (λ st h. let s = made r v st in
+          is st ∙ unit.take-unset s (made-full r v good plain st h) (made-sound r v good plain st h) (made-lent r v good plain st h) (ap isUnset k) o)
+      by-clock (At t) k = by-reading t k o refl
+
+  pub take-outcome : (name body : List ℕ) → Outcome (fileTaken name body) r v
+  unfolding step
+  take-outcome name body =
+      taken-outcome (fileTaken name body) (takeFile (r .plant .id) name body) (file-carries (r .plant .id) name body) (λ st. refl)
+
+  pub response-outcome : (boundary bytes : List ℕ) → Outcome (responseTaken boundary bytes) r v
+  unfolding step
+  response-outcome boundary bytes =
+      taken-outcome (responseTaken boundary bytes) (takeResponse (r .plant .id) boundary bytes) (response-carries (r .plant .id) boundary bytes) (λ st. refl)

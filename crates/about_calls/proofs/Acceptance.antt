@@ -27,7 +27,7 @@ use Rattle.about_store.proofs.Rooms.{any-run}
 use Rattle.about_store.proofs.Counts.{count-add, count-list, count-same, member-mem, mem-member, one-more}
 use Rattle.about_store.proofs.Laws.{taken-good}
 use Rattle.unit.specs.Values.{isSound}
-use Rattle.taking.specs.Taken.{takeOf, fullRow}
+use Rattle.taking.specs.Taken.{outcomeTaken, fullRow}
 use Rattle.unit.specs.declared.Unit.{Unit}
 use Rattle.unit.specs.declared.Clock.the-variants.{At}
 use Rattle.unit.proofs.CallLaws.{sound-is}
@@ -88,7 +88,7 @@ module _ (u : Unit) (good : isSound u ≡ true) where
       (omega (arith, together-is f g, held-count, free-is (u .pool), months-few blockCount (u .pool)))
 
 pub accepts-lawful : AcceptsLawful
-unfolding takeOf firstOf
+unfolding outcomeTaken firstOf
 accepts-lawful u store t f good long bytes clock law kind few =
     let read : takeFile (u .plant .id) (encodeName (f .name)) (encodeBody (f .body)) ≡ file f =
     taken-exactly (u .plant .id) (encodeName (f .name)) (encodeBody (f .body)) f .1 (record { nameBytes = refl; bodyBytes = refl; fields = law }, kind) in

@@ -9,9 +9,10 @@ use lib.Dec.{leb, ltb, eqb}
 use Rattle.rules.specs.Calendar.{monthOf, endOfTime, slotCount}
 use Rattle.rules.specs.Plant.{Settings, lastDigit}
 use Rattle.rules.specs.File.{File, Outcome, refuse, file, takeFile}
+use Rattle.rules.specs.Response.{takeResponse}
 use Rattle.rules.specs.Store.{Requests, storeLength, blockCount}
 use Rattle.rules.specs.Causes.{accepted}
-use Rattle.rules.specs.Machine.{Machine, Told, Call, tick, clockLost, fileTaken, failure, due, ceilingOf, command, freeBlocks, freshMachine, setClock, moveCommand, second, seconds, tickFrom, ticked, lostClock, withFile, withRequests, check, atClock, takeOutcome, heldCount, isStatus, failed, dueOf, ceilingReply, rateOf, Step, step, after}
+use Rattle.rules.specs.Machine.{Machine, Told, Call, tick, clockLost, fileTaken, responseTaken, failure, due, ceilingOf, command, freeBlocks, freshMachine, setClock, moveCommand, second, seconds, tickFrom, ticked, lostClock, withFile, withRequests, check, atClock, takeOutcome, takeStep, heldCount, isStatus, failed, dueOf, ceilingReply, rateOf, Step, step, after}
 use Rattle.rules.specs.declared.Cause.{Cause}
 use Rattle.about_calls.proofs.Options.{none-some, some-same}
 
@@ -61,6 +62,12 @@ take-ahead : (t : ℕ) (o : Outcome) (M : Machine) → Ahead M → Ahead (takeOu
 take-ahead t (refuse c) M h = h
 take-ahead t (file f) M h = check-ahead (leb (heldCount (withFile t f M)) blockCount) Cause.Full (accepted, withFile t f M) M (file-ahead t f M h) h
 
+taken-ahead : (w : Told) (o : Outcome) (M : Machine) → Ahead M → Ahead (takeStep w o M .1)
+taken-ahead w o M h =
+    let done : ℕ → Step = λ t. takeOutcome t o M in
+    check-ahead (eqb (w .storeLength) storeLength) Cause.StoreLength (atClock (M .clock) done M) M
+    (clock-ahead (M .clock) done M (λ t. take-ahead t o M h) h) h
+
 requests-ahead : (q : Requests) (M : Machine) → Ahead M → Ahead (withRequests q M)
 unfolding withRequests
 requests-ahead q M h = h
@@ -76,10 +83,8 @@ step-ahead w (tick t) M h =
     check-ahead (eqb (w .storeLength) storeLength) Cause.StoreLength (check (ltb t endOfTime) Cause.Range done M) M
     (check-ahead (ltb t endOfTime) Cause.Range done M (tick-ahead (w .settings) t M h) h) h
 step-ahead w clockLost M h = lost-ahead M
-step-ahead w (fileTaken name body) M h =
-    let done : ℕ → Step = λ t. takeOutcome t (takeFile (w .plant) name body) M in
-    check-ahead (eqb (w .storeLength) storeLength) Cause.StoreLength (atClock (M .clock) done M) M
-    (clock-ahead (M .clock) done M (λ t. take-ahead t (takeFile (w .plant) name body) M h) h) h
+step-ahead w (fileTaken name body) M h = taken-ahead w (takeFile (w .plant) name body) M h
+step-ahead w (responseTaken boundary bytes) M h = taken-ahead w (takeResponse (w .plant) boundary bytes) M h
 step-ahead w (failure kind status) M h =
     let done : ℕ → Step = λ t. (accepted, withRequests (failed (w .settings) (lastDigit (w .plant)) kind t status (M .requests)) M) in
     clock-ahead (M .clock) (λ t. check (isStatus status) Cause.Range (done t) M) M

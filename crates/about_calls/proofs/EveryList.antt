@@ -8,7 +8,7 @@ use lib.Dec.{eqb}
 use lib.ListN.{length}
 use Rattle.rules.specs.Store.{storeLength, soundRequests}
 use Rattle.rules.specs.Causes.{Reply}
-use Rattle.rules.specs.Machine.{Machine, Call, tick, clockLost, fileTaken, failure, due, ceilingOf, command, freeBlocks, freshMachine, step as machineStep, replies as machineReplies, after as machineAfter}
+use Rattle.rules.specs.Machine.{Machine, Call, tick, clockLost, fileTaken, responseTaken, failure, due, ceilingOf, command, freeBlocks, freshMachine, step as machineStep, replies as machineReplies, after as machineAfter}
 use Rattle.plant.specs.Plant.{validPlant}
 use Rattle.plant.specs.declared.Plant.{Plant}
 use Rattle.about_store.proofs.Laws.{fresh-agrees}
@@ -18,7 +18,7 @@ use Rattle.about_calls.specs.Theorem.{fresh, told, EveryList}
 use Rattle.about_calls.proofs.Options.{test-same, test-other}
 use Rattle.about_calls.proofs.Follows.{Kept, agrees, apart, Follows, follows-holds}
 use Rattle.about_calls.proofs.Steps.{Sim, w, lost-step, command-step, free-step, due-step, failure-step, tick-step, ceiling-step}
-use Rattle.about_calls.proofs.Taking.{take-step}
+use Rattle.about_calls.proofs.Taking.{take-step, response-step}
 
 module _ (p : Plant) (valid : validPlant p ≡ true) where
   -- the fresh unit follows the fresh machine
@@ -50,6 +50,7 @@ module _ (p : Plant) (valid : validPlant p ≡ true) where
   call-step n s M h (tick t) = tick-step p valid n s M h t
   call-step n s M h clockLost = lost-step p valid n s M h
   call-step n s M h (fileTaken name body) = take-step p valid n s M h name body
+  call-step n s M h (responseTaken boundary bytes) = response-step p valid n s M h boundary bytes
   call-step n s M h (failure kind status) = failure-step p valid n s M h kind status
   call-step n s M h due = due-step p valid n s M h
   call-step n s M h (ceilingOf slot) = ceiling-step p valid n s M h slot

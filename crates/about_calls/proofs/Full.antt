@@ -26,7 +26,7 @@ use Rattle.about_store.proofs.Laws.{taken-good}
 use Rattle.unit.specs.Values.{isSound}
 use Rattle.unit.specs.Rows.{isUnset}
 use Rattle.unit.specs.Calls.{doneBy}
-use Rattle.taking.specs.Taken.{takeRows, takeOf, taken, fullRow}
+use Rattle.taking.specs.Taken.{outcomeRows, outcomeTaken, takeOf, taken, fullRow}
 use Rattle.unit.specs.declared.Unit.{Unit}
 use Rattle.unit.specs.declared.Clock.{Clock}
 use Rattle.about_calls.specs.Acceptance.{together}
@@ -73,10 +73,10 @@ module _ (u : Unit) (store name body : List ℕ) (t : ℕ) (f : File) where
   full-answer : isSound u ≡ true → length store ≡ storeLength → soundStore (heldOf (u .pool)) store ≡ true → u .clock ≡ Clock.At t
       → takeFile (u .plant .id) name body ≡ file f
       → takeOf u store name body .answer ≡ answerOf (cond (ltb blockCount (together u f)) (some Cause.Full) none)
-  unfolding takeOf firstOf
+  unfolding outcomeTaken firstOf
   full-answer good long bytes clock read =
       let full = full-is u good f (taken-good (u .plant .id) name body f read) in
-      done-answer (firstOf (takeRows u store name body)) (taken (takeFile (u .plant .id) name body) store u) u
+      done-answer (firstOf (outcomeRows u store (takeFile (u .plant .id) name body))) (taken (takeFile (u .plant .id) name body) store u) u
       ∙ rw (eq-eqb (length store) storeLength long, good, bytes, ap isUnset clock, read, full, full-cause f u) refl
 
 full-test : (x : Bool) → answerOf (cond x (some Cause.Full) none) ≡ Answer.Refused Cause.Full → x ≡ true

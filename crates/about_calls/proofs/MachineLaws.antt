@@ -9,8 +9,8 @@ use Rattle.rules.specs.Plant.{lastDigit}
 use Rattle.rules.specs.Calendar.{endOfTime, slotCount, monthCount}
 use Rattle.rules.specs.Store.{storeLength, blockCount}
 use Rattle.rules.specs.Causes.{accepted}
-use Rattle.rules.specs.File.{File, Outcome, refuse, file, takeFile}
-use Rattle.rules.specs.Machine.{Machine, Told, tick, fileTaken, failure, due, ceilingOf, rateOf, isHeld, anyFile, countBelow, heldCount, ticked, withFile, isStatus, failed, withRequests, dueOf, ceilingReply, refusal, check, atClock, takeOutcome, step, Step}
+use Rattle.rules.specs.File.{File, Outcome, file}
+use Rattle.rules.specs.Machine.{Machine, Told, tick, failure, due, ceilingOf, rateOf, isHeld, anyFile, countBelow, heldCount, ticked, withFile, isStatus, failed, withRequests, dueOf, ceilingReply, refusal, check, atClock, takeOutcome, takeStep, step, Step}
 use Rattle.rules.specs.declared.Cause.{Cause}
 use Rattle.rules.specs.declared.Kind.{Kind}
 
@@ -109,33 +109,31 @@ module _ (w : Told) (M : Machine) where
           → step w (ceilingOf slot) M ≡ (ceilingReply (w .settings) (rateOf M slot), M)
       ceiling-done t e f = lent-ceiling (some t) e ∙ ap (λ (b : Bool). check b Cause.Range (ceilingReply (w .settings) (rateOf M slot), M) M) f
 
-  -- ---- file taken
+  -- ---- what was read, taken
 
-  module _ (name body : List ℕ) where
+  module _ (o : Outcome) where
     abbrev outcome : ℕ → Step
-    outcome t = takeOutcome t (takeFile (w .plant) name body) M
+    outcome t = takeOutcome t o M
 
-    pub take-length : eqb (w .storeLength) storeLength ≡ false → step w (fileTaken name body) M ≡ refusal Cause.StoreLength M
-    unfolding step
+    pub take-length : eqb (w .storeLength) storeLength ≡ false → takeStep w o M ≡ refusal Cause.StoreLength M
     take-length e = ap (λ (b : Bool). check b Cause.StoreLength (atClock (M .clock) outcome M) M) e
 
     module _ (l : eqb (w .storeLength) storeLength ≡ true) where
-      lent-take : (o : Option ℕ) → M .clock ≡ o → step w (fileTaken name body) M ≡ atClock o outcome M
-      unfolding step
-      lent-take o e = ap (λ (b : Bool). check b Cause.StoreLength (atClock (M .clock) outcome M) M) l ∙ ap (λ (o : Option ℕ). atClock o outcome M) e
+      lent-take : (c : Option ℕ) → M .clock ≡ c → takeStep w o M ≡ atClock c outcome M
+      lent-take c e = ap (λ (b : Bool). check b Cause.StoreLength (atClock (M .clock) outcome M) M) l ∙ ap (λ (x : Option ℕ). atClock x outcome M) e
 
-      pub take-unset : M .clock ≡ none → step w (fileTaken name body) M ≡ refusal Cause.ClockUnset M
+      pub take-unset : M .clock ≡ none → takeStep w o M ≡ refusal Cause.ClockUnset M
       take-unset e = lent-take none e
 
-      pub take-refused : (t : ℕ) → M .clock ≡ some t → (c : Cause) → takeFile (w .plant) name body ≡ refuse c → step w (fileTaken name body) M ≡ refusal c M
-      take-refused t e c f = lent-take (some t) e ∙ ap (λ (x : Outcome). takeOutcome t x M) f
+      pub take-outcome : (t : ℕ) → M .clock ≡ some t → takeStep w o M ≡ takeOutcome t o M
+      take-outcome t e = lent-take (some t) e
 
-      pub take-full : (t : ℕ) → M .clock ≡ some t → (f : File) → takeFile (w .plant) name body ≡ file f → leb (heldCount (withFile t f M)) blockCount ≡ false
-          → step w (fileTaken name body) M ≡ refusal Cause.Full M
-      take-full t e f g k =
-          lent-take (some t) e ∙ ap (λ (x : Outcome). takeOutcome t x M) g ∙ ap (λ (b : Bool). check b Cause.Full (accepted, withFile t f M) M) k
+  module _ (l : eqb (w .storeLength) storeLength ≡ true) (t : ℕ) (set : M .clock ≡ some t) (f : File) where
+    room : (b : Bool) → leb (heldCount (withFile t f M)) blockCount ≡ b → takeStep w (file f) M ≡ check b Cause.Full (accepted, withFile t f M) M
+    room b k = take-outcome (file f) l t set ∙ ap (λ (x : Bool). check x Cause.Full (accepted, withFile t f M) M) k
 
-      pub take-done : (t : ℕ) → M .clock ≡ some t → (f : File) → takeFile (w .plant) name body ≡ file f → leb (heldCount (withFile t f M)) blockCount ≡ true
-          → step w (fileTaken name body) M ≡ (accepted, withFile t f M)
-      take-done t e f g k =
-          lent-take (some t) e ∙ ap (λ (x : Outcome). takeOutcome t x M) g ∙ ap (λ (b : Bool). check b Cause.Full (accepted, withFile t f M) M) k
+    pub take-full : leb (heldCount (withFile t f M)) blockCount ≡ false → takeStep w (file f) M ≡ refusal Cause.Full M
+    take-full = room false
+
+    pub take-done : leb (heldCount (withFile t f M)) blockCount ≡ true → takeStep w (file f) M ≡ (accepted, withFile t f M)
+    take-done = room true

@@ -14,8 +14,9 @@ use borrow.Author.Tests.{ltb-true}
 use Rattle.rules.specs.Calendar.{monthOfSlot}
 use Rattle.rules.specs.Body.{Record}
 use Rattle.rules.specs.File.{Outcome, refuse, file, takeFile, startOf, recordsIn}
+use Rattle.rules.specs.Response.{takeResponse}
 use Rattle.rules.specs.Store.{blockCount}
-use Rattle.rules.specs.Machine.{Call, tick, clockLost, fileTaken, failure, due, ceilingOf, command, freeBlocks, raisedFloor}
+use Rattle.rules.specs.Machine.{Call, tick, clockLost, fileTaken, responseTaken, failure, due, ceilingOf, command, freeBlocks, raisedFloor}
 use Rattle.rules.specs.Table.{firstOf}
 use Rattle.rules.specs.declared.Cause.{Cause}
 use Rattle.pool.specs.Blocks.{isFree, monthOf, freeCount, findOf, given, freeAfter, releaseOf}
@@ -33,7 +34,7 @@ use Rattle.about_store.specs.Untouched.{Keeps}
 use Rattle.about_store.proofs.Given.{given-cases, given-keeps}
 use Rattle.about_store.proofs.Put.{live}
 use Rattle.unit.specs.Calls.{doneBy, setClock, withCommand, second, seconds, tickFrom, ticked, tickOf, lost, lostOf, withFailure, failureOf}
-use Rattle.taking.specs.Taken.{takeRows, takeOf, taken, withFile}
+use Rattle.taking.specs.Taken.{outcomeRows, outcomeTaken, taken, withFile}
 use Rattle.calls.specs.Step.{State, step, after}
 use Rattle.unit.specs.declared.Unit.{Unit}
 use Rattle.unit.specs.declared.Clock.{Clock}
@@ -214,16 +215,20 @@ taken-moves (file f) store u long =
     adds-moves (u .pool) (withFile f store u .pool) (u .floor)
     (records-add (u .floor) (recordsIn (f .body)) (record { pool = u .pool; store = store }) long)
 
+outcome-moves : (o : Outcome) (store : List ℕ) (u : Unit) → length (u .pool .months) ≡ blockCount
+    → Moves (u .pool) (outcomeTaken u store o .unit .pool) (outcomeTaken u store o .unit .floor)
+unfolding outcomeTaken
+outcome-moves o store u long = done-moves (firstOf (outcomeRows u store o)) u (taken o store u) (taken-moves o store u long)
+
 pub step-moves : (c : Call) (s : State) → length (s .unit .pool .months) ≡ blockCount
     → Moves (s .unit .pool) (step c s .1 .unit .pool) (step c s .1 .unit .floor)
-unfolding step tickOf lostOf takeOf failureOf lost withFailure
+unfolding step tickOf lostOf failureOf lost withFailure
 step-moves (tick t) s long =
     done-moves (firstOf (rowsOf (tick t) s)) (s .unit) (ticked (s .store) t (s .unit))
     (drops-moves (s .unit) (ticked (s .store) t (s .unit)) (tick-drops (s .store) t (s .unit)))
 step-moves clockLost s long = done-moves (firstOf (rowsOf clockLost s)) (s .unit) (lost (s .unit)) (stays (s .unit .pool) (s .unit .floor))
-step-moves (fileTaken name body) s long =
-    done-moves (firstOf (takeRows (s .unit) (s .store) name body)) (s .unit) (taken (takeFile (s .unit .plant .id) name body) (s .store) (s .unit))
-    (taken-moves (takeFile (s .unit .plant .id) name body) (s .store) (s .unit) long)
+step-moves (fileTaken name body) s long = outcome-moves (takeFile (s .unit .plant .id) name body) (s .store) (s .unit) long
+step-moves (responseTaken boundary bytes) s long = outcome-moves (takeResponse (s .unit .plant .id) boundary bytes) (s .store) (s .unit) long
 step-moves (failure kind status) s long =
     done-moves (firstOf (rowsOf (failure kind status) s)) (s .unit) (withFailure kind status (s .unit)) (stays (s .unit .pool) (s .unit .floor))
 step-moves due s long = stays (s .unit .pool) (s .unit .floor)
@@ -242,13 +247,16 @@ unfolding withFile
 taken-rises (refuse c) store u = omega arith
 taken-rises (file f) store u = omega arith
 
+outcome-rises : (o : Outcome) (store : List ℕ) (u : Unit) → u .floor ≤ outcomeTaken u store o .unit .floor
+unfolding outcomeTaken
+outcome-rises o store u = done-rises (firstOf (outcomeRows u store o)) u (taken o store u) (taken-rises o store u)
+
 pub step-rises : (c : Call) (s : State) → s .unit .floor ≤ step c s .1 .unit .floor
-unfolding step tickOf lostOf takeOf failureOf lost withFailure
+unfolding step tickOf lostOf failureOf lost withFailure
 step-rises (tick t) s = done-rises (firstOf (rowsOf (tick t) s)) (s .unit) (ticked (s .store) t (s .unit)) (tick-drops (s .store) t (s .unit) .rises)
 step-rises clockLost s = done-rises (firstOf (rowsOf clockLost s)) (s .unit) (lost (s .unit)) (omega arith)
-step-rises (fileTaken name body) s =
-    done-rises (firstOf (takeRows (s .unit) (s .store) name body)) (s .unit) (taken (takeFile (s .unit .plant .id) name body) (s .store) (s .unit))
-    (taken-rises (takeFile (s .unit .plant .id) name body) (s .store) (s .unit))
+step-rises (fileTaken name body) s = outcome-rises (takeFile (s .unit .plant .id) name body) (s .store) (s .unit)
+step-rises (responseTaken boundary bytes) s = outcome-rises (takeResponse (s .unit .plant .id) boundary bytes) (s .store) (s .unit)
 step-rises (failure kind status) s =
     done-rises (firstOf (rowsOf (failure kind status) s)) (s .unit) (withFailure kind status (s .unit)) (omega arith)
 step-rises due s = omega arith

@@ -14,15 +14,16 @@ use Rattle.rules.specs.Causes.{refused, numberOf, ofDue, ofCeiling, ofCommand, 
 use Rattle.rules.specs.Plant.{Settings, lastDigit}
 use Rattle.pool.specs.Blocks.{freeCount}
 use Rattle.pool.specs.Held.{heldOf}
-use Rattle.rules.specs.Machine.{Call, tick, clockLost, fileTaken, failure, due, ceilingOf, command, freeBlocks}
-use Rattle.rules.specs.Table.{Row, row, firstOf}
-use Rattle.rules.specs.Rows.{takenRows}
+use Rattle.rules.specs.Machine.{Call, tick, clockLost, fileTaken, responseTaken, failure, due, ceilingOf, command, freeBlocks}
+use Rattle.rules.specs.Table.{Row, row, firstOf, appliesIn, Lowest}
+use Rattle.rules.specs.Response.{parseResponse, takeParsed, takeResponse}
+use Rattle.rules.specs.Rows.{takenRows, formless}
 use Rattle.rules.specs.declared.Answer.{Answer}
 use Rattle.rules.specs.declared.Cause.{Cause}
 use Rattle.rules.specs.declared.Due.{Due}
 use Rattle.about_files.specs.ReadRefusals.{Parsed}
 use Rattle.about_files.proofs.Causes.{same-cause}
-use Rattle.about_files.proofs.Table.{rising, first-lowest, first-none, first-before, first-after, answer-refuses, answer-given}
+use Rattle.about_files.proofs.Table.{risingFrom, rising, first-lowest, first-none, first-before, first-after, answer-refuses, answer-given}
 use Rattle.about_files.proofs.ReadRefusals.{causeOf, take-first, take-accepts}
 use Rattle.plant.specs.Plant.{settingsOf}
 use Rattle.schedule.specs.Stored.{storedRate}
@@ -32,19 +33,21 @@ use Rattle.polling.specs.Due.{asksFixed, dueFor}
 use Rattle.unit.specs.Values.{isSound}
 use Rattle.unit.specs.Rows.{lengthRow, unitRow, soundRow, clockRow, tickRow, slotRow, statusRow}
 use Rattle.unit.specs.Calls.{doneBy, ticked, tickOf, lost, lostOf, withFailure, failureOf, dueBy, dueOf, clockTime, ceilingBy, ceilingAnswer, ceilingOf as ceilingAt, commandBy, commandOf, freeBy, freeOf}
-use Rattle.taking.specs.Taken.{takeRows, takeOf, taken, outcomeRow, storeBy, storeWith, storeAfterTake}
+use Rattle.taking.specs.Taken.{outcomeRows, outcomeTaken, storeTaken, taken, outcomeRow, storeBy, storeWith, takeOf, responseOf}
 use Rattle.calls.specs.Step.{State, stepDone, step}
 use Rattle.unit.specs.declared.Unit.{Unit}
 use Rattle.about_calls.specs.Acceptance.{together}
 use Rattle.about_calls.specs.Full.{crowds, fullBreaks}
-use Rattle.about_calls.specs.Refusals.{ofFile, callRows, isRefused, fileRows, RefusesLowest, RefusalLeaves, AcceptsElse, FileRefuses, FileAccepts}
+use Rattle.about_calls.specs.Refusals.{takingRows, carriedBy, ofFile, callRows, isRefused, fileRows, wholeRows, RefusesLowest, RefusalLeaves, AcceptsElse, FileRefuses, FileAccepts, WholeRefuses, WholeAccepts}
 use Rattle.about_calls.proofs.Full.{answerOf, causeIn, done-answer, full-is, full-cause}
+use Rattle.about_calls.proofs.UnitLaws.{takenStep}
 
 -- the rows that each call's own definition looks at, one after the other
 abbrev pub rowsOf : Call → State → List Row
 rowsOf (tick t) s = lengthRow (s .store) ∷ soundRow (s .unit) (s .store) ∷ tickRow t ∷ []
 rowsOf clockLost s = unitRow (s .unit) ∷ []
-rowsOf (fileTaken name body) s = takeRows (s .unit) (s .store) name body
+rowsOf (fileTaken name body) s = outcomeRows (s .unit) (s .store) (takeFile (s .unit .plant .id) name body)
+rowsOf (responseTaken boundary bytes) s = outcomeRows (s .unit) (s .store) (takeResponse (s .unit .plant .id) boundary bytes)
 rowsOf (failure kind status) s = unitRow (s .unit) ∷ clockRow (s .unit) ∷ statusRow status ∷ []
 rowsOf due s = unitRow (s .unit) ∷ clockRow (s .unit) ∷ []
 rowsOf (ceilingOf slot) s = lengthRow (s .store) ∷ soundRow (s .unit) (s .store) ∷ clockRow (s .unit) ∷ slotRow slot ∷ []
@@ -59,7 +62,7 @@ module _ (u : Unit) (name body : List ℕ) where
   full-row x p = ap (λ (o : Option Name). fullBreaks u o body) (p .nameIs) ∙ ap (λ (o : Option Body). crowds u (x .name) o) (p .bodyIs)
 
   outcome-first : isSound u ≡ true → (o : Outcome) → takeFile (u .plant .id) name body ≡ o
-      → firstOf (outcomeRow o u ∷ []) ≡ firstOf (ofFile (fileTaken name body) u)
+      → firstOf (outcomeRow o u ∷ []) ≡ firstOf (takingRows u name body)
   unfolding firstOf
   outcome-first good (refuse c) e =
       sym (first-before (takenRows (u .plant .id) name body) _ c (sym (take-first (u .plant .id) name body) ∙ ap causeOf e))
@@ -72,6 +75,18 @@ module _ (u : Unit) (name body : List ℕ) where
         full-is u good x (taken-good (u .plant .id) name body x e),
         full-cause x u,
       ) refl
+
+-- a response: 17, or the rows of what it carries
+parsed-first : (u : Unit) → isSound u ≡ true → (q : Option (List ℕ × List ℕ))
+    → firstOf (outcomeRow (takeParsed (u .plant .id) q) u ∷ []) ≡ firstOf (row Cause.Response (formless q) ∷ carriedBy u q)
+unfolding firstOf
+parsed-first u good none = refl
+parsed-first u good (some q) = outcome-first u (q .0) (q .1) good (takeFile (u .plant .id) (q .0) (q .1)) refl
+
+response-first : (u : Unit) (boundary bytes : List ℕ) → isSound u ≡ true
+    → firstOf (outcomeRow (takeResponse (u .plant .id) boundary bytes) u ∷ []) ≡ firstOf (ofFile (responseTaken boundary bytes) u)
+unfolding takeResponse
+response-first u boundary bytes good = parsed-first u good (parseResponse boundary bytes)
 
 -- 4 of a unit with a store
 lent-row : (s : State) → (not (isSound (s .unit)) || not (soundStore (heldOf (s .unit .pool)) (s .store))) ≡ soundRow (s .unit) (s .store) .applies
@@ -87,16 +102,28 @@ where-sound true true e = e refl
 where-sound true false e = refl
 where-sound false y e = refl
 
+-- 3, 4 and 5, then what follows them
+taken-same : (s : State) (o : Outcome) (after : Option Cause) → (isSound (s .unit) ≡ true → firstOf (outcomeRow o (s .unit) ∷ []) ≡ after)
+    → firstOf (outcomeRows (s .unit) (s .store) o)
+    ≡ cond (lengthRow (s .store) .applies) (some Cause.StoreLength)
+    (cond (not (isSound (s .unit)) || not (soundStore (heldOf (s .unit .pool)) (s .store))) (some Cause.Unsound)
+    (cond (clockRow (s .unit) .applies) (some Cause.ClockUnset) after))
+unfolding firstOf
+taken-same s o after same =
+    rw (lent-row s)
+    (ap (λ (x : Option Cause). cond (lengthRow (s .store) .applies) (some Cause.StoreLength) x)
+    (where-sound (isSound (s .unit)) (soundStore (heldOf (s .unit .pool)) (s .store)) (λ good.
+    ap (λ (x : Option Cause). cond (clockRow (s .unit) .applies) (some Cause.ClockUnset) x) (same good))))
+
 pub rows-same : (c : Call) (s : State) → firstOf (rowsOf c s) ≡ firstOf (callRows c s)
 unfolding firstOf callRows
 rows-same (tick t) s = rw (lent-row s) refl
 rows-same clockLost s = rw (or-false (not (isSound (s .unit)))) refl
 rows-same (fileTaken name body) s =
-    rw (lent-row s)
-    (ap (λ (o : Option Cause). cond (lengthRow (s .store) .applies) (some Cause.StoreLength) o)
-    (where-sound (isSound (s .unit)) (soundStore (heldOf (s .unit .pool)) (s .store)) (λ good.
-    ap (λ (o : Option Cause). cond (clockRow (s .unit) .applies) (some Cause.ClockUnset) o)
-    (outcome-first (s .unit) name body good (takeFile (s .unit .plant .id) name body) refl))))
+    taken-same s _ (firstOf (takingRows (s .unit) name body))
+    (λ good. outcome-first (s .unit) name body good (takeFile (s .unit .plant .id) name body) refl)
+rows-same (responseTaken boundary bytes) s =
+    taken-same s _ (firstOf (ofFile (responseTaken boundary bytes) (s .unit))) (response-first (s .unit) boundary bytes)
 rows-same (failure kind status) s = rw (or-false (not (isSound (s .unit)))) refl
 rows-same due s = rw (or-false (not (isSound (s .unit)))) refl
 rows-same (ceilingOf slot) s = rw (lent-row s) refl
@@ -109,6 +136,12 @@ unfolding callRows takenRows
 rows-rise (tick t) s = refl
 rows-rise clockLost s = refl
 rows-rise (fileTaken name body) s = refl
+rows-rise (responseTaken boundary bytes) s = carried-rise (parseResponse boundary bytes)
+  where
+    carried-rise : (q : Option (List ℕ × List ℕ)) → risingFrom 61 (row Cause.Response (formless q) ∷ carriedBy (s .unit) q) ≡ true
+    unfolding takenRows
+    carried-rise none = refl
+    carried-rise (some q) = refl
 rows-rise (failure kind status) s = refl
 rows-rise due s = refl
 rows-rise (ceilingOf slot) s = refl
@@ -117,14 +150,17 @@ rows-rise freeBlocks s = refl
 
 -- ---- where a row applies
 
+taken-refuses : (o : Outcome) (s : State) (k : Cause) → firstOf (outcomeRows (s .unit) (s .store) o) ≡ some k → takenStep o s ≡ (refused (numberOf k), s)
+unfolding outcomeTaken storeTaken
+taken-refuses o s k e =
+    ap (λ (x : Option Cause). stepDone (doneBy x (taken o (s .store) (s .unit)) (s .unit)) (storeBy x (storeWith o (s .store) (s .unit)) (s .store))) e
+
 pub step-refuses : (c : Call) (s : State) (k : Cause) → firstOf (rowsOf c s) ≡ some k → step c s ≡ (refused (numberOf k), s)
-unfolding step tickOf lostOf takeOf storeAfterTake failureOf dueOf ceilingAt commandOf freeOf
+unfolding step tickOf lostOf failureOf dueOf ceilingAt commandOf freeOf
 step-refuses (tick t) s k e = ap (λ (o : Option Cause). stepDone (doneBy o (ticked (s .store) t (s .unit)) (s .unit)) (s .store)) e
 step-refuses clockLost s k e = ap (λ (o : Option Cause). stepDone (doneBy o (lost (s .unit)) (s .unit)) (s .store)) e
-step-refuses (fileTaken name body) s k e =
-    ap (λ (o : Option Cause).
-    stepDone (doneBy o (taken (takeFile (s .unit .plant .id) name body) (s .store) (s .unit)) (s .unit))
-    (storeBy o (storeWith (takeFile (s .unit .plant .id) name body) (s .store) (s .unit)) (s .store))) e
+step-refuses (fileTaken name body) s k e = taken-refuses (takeFile (s .unit .plant .id) name body) s k e
+step-refuses (responseTaken boundary bytes) s k e = taken-refuses (takeResponse (s .unit .plant .id) boundary bytes) s k e
 step-refuses (failure kind status) s k e = ap (λ (o : Option Cause). stepDone (doneBy o (withFailure kind status (s .unit)) (s .unit)) (s .store)) e
 step-refuses due s k e =
     let u = s .unit in
@@ -152,12 +188,16 @@ ceiling-answers : (o : Option ℕ) (s : Settings) → isRefused (ofCeiling (ceil
 ceiling-answers none s = refl
 ceiling-answers (some r) s = refl
 
+taken-answers : (o : Outcome) (s : State) → firstOf (outcomeRows (s .unit) (s .store) o) ≡ none → isRefused (takenStep o s .0) ≡ false
+unfolding outcomeTaken
+taken-answers o s e = ap (λ (x : Option Cause). isRefused (stepDone (doneBy x (taken o (s .store) (s .unit)) (s .unit)) (s .store) .0)) e
+
 step-answers : (c : Call) (s : State) → firstOf (rowsOf c s) ≡ none → isRefused (step c s .0) ≡ false
-unfolding step tickOf lostOf takeOf storeAfterTake failureOf dueOf ceilingAt commandOf freeOf
+unfolding step tickOf lostOf failureOf dueOf ceilingAt commandOf freeOf
 step-answers (tick t) s e = ap (λ (o : Option Cause). isRefused (stepDone (doneBy o (ticked (s .store) t (s .unit)) (s .unit)) (s .store) .0)) e
 step-answers clockLost s e = ap (λ (o : Option Cause). isRefused (stepDone (doneBy o (lost (s .unit)) (s .unit)) (s .store) .0)) e
-step-answers (fileTaken name body) s e =
-    ap (λ (o : Option Cause). isRefused (stepDone (doneBy o (taken (takeFile (s .unit .plant .id) name body) (s .store) (s .unit)) (s .unit)) (s .store) .0)) e
+step-answers (fileTaken name body) s e = taken-answers (takeFile (s .unit .plant .id) name body) s e
+step-answers (responseTaken boundary bytes) s e = taken-answers (takeResponse (s .unit .plant .id) boundary bytes) s e
 step-answers (failure kind status) s e =
     ap (λ (o : Option Cause). isRefused (stepDone (doneBy o (withFailure kind status (s .unit)) (s .unit)) (s .store) .0)) e
 step-answers due s e =
@@ -203,20 +243,38 @@ refusal-leaves c s n x = left-first c s n (firstOf (rowsOf c s)) refl x
 pub accepts-else : AcceptsElse
 accepts-else c s = Iff·trans (answered-first c s (firstOf (callRows c s)) (rows-same c s)) (first-none (callRows c s))
 
--- ---- a file taken, by the method's answer
+-- ---- a file or a response taken, by the answer of its own function
 
-take-answer : (u : Unit) (store name body : List ℕ) → takeOf u store name body .answer ≡ answerOf (firstOf (fileRows u store name body))
-unfolding takeOf
-take-answer u store name body =
-    done-answer (firstOf (takeRows u store name body)) (taken (takeFile (u .plant .id) name body) store u) u
-    ∙ ap answerOf (rows-same (fileTaken name body) (record { unit = u; store = store }))
+pub taken-answer : (u : Unit) (store : List ℕ) (o : Outcome) → outcomeTaken u store o .answer ≡ answerOf (firstOf (outcomeRows u store o))
+unfolding outcomeTaken
+taken-answer u store o = done-answer (firstOf (outcomeRows u store o)) (taken o store u) u
+
+module _ (c : Call) (s : State) (answer : Answer) (is : answer ≡ answerOf (firstOf (rowsOf c s))) where
+  by-rows : answer ≡ answerOf (firstOf (callRows c s))
+  by-rows = is ∙ ap answerOf (rows-same c s)
+
+  refuses-by : (k : Cause) → (answer ≡ Answer.Refused k) ↔ Lowest (callRows c s) k
+  refuses-by k = rw by-rows (answer-refuses Answer.Refused Answer.Accepted causeIn (λ x. refl) refl (callRows c s) (rows-rise c s) k)
+
+  accepts-by : (answer ≡ Answer.Accepted) ↔ ((k : Cause) → appliesIn (callRows c s) k ≡ false)
+  accepts-by = rw by-rows (answer-given Answer.Refused Answer.Accepted causeIn (λ x. refl) refl (callRows c s))
 
 pub file-refuses : FileRefuses
 file-refuses u store name body k =
-    let rise = rows-rise (fileTaken name body) (record { unit = u; store = store }) in
-    rw (take-answer u store name body)
-    (answer-refuses Answer.Refused Answer.Accepted causeIn (λ c. refl) refl (fileRows u store name body) rise k)
+    refuses-by (fileTaken name body) (record { unit = u; store = store }) (takeOf u store name body .answer)
+    (taken-answer u store (takeFile (u .plant .id) name body)) k
 
 pub file-accepts : FileAccepts
 file-accepts u store name body =
-    rw (take-answer u store name body) (answer-given Answer.Refused Answer.Accepted causeIn (λ c. refl) refl (fileRows u store name body))
+    accepts-by (fileTaken name body) (record { unit = u; store = store }) (takeOf u store name body .answer)
+    (taken-answer u store (takeFile (u .plant .id) name body))
+
+pub whole-refuses : WholeRefuses
+whole-refuses u store boundary bytes k =
+    refuses-by (responseTaken boundary bytes) (record { unit = u; store = store }) (responseOf u store boundary bytes .answer)
+    (taken-answer u store (takeResponse (u .plant .id) boundary bytes)) k
+
+pub whole-accepts : WholeAccepts
+whole-accepts u store boundary bytes =
+    accepts-by (responseTaken boundary bytes) (record { unit = u; store = store }) (responseOf u store boundary bytes .answer)
+    (taken-answer u store (takeResponse (u .plant .id) boundary bytes))

@@ -1,8 +1,9 @@
--- A file taken: the flags and times that it brings are sound, the unit's reply is the machine's, and the unit goes on following.
+-- A file taken, by itself or in a response: the flags and times that it brings are sound, the unit's reply is the machine's, and the unit goes on following.
 use Prim.Native.Nat.{ℕ, _≤_, _<_}
 use mathlib.Core.Path.{_≡_, refl, sym, ap, ap₂, _∙_, subst}
 use mathlib.Core.Bool.{Bool, true, false, not}
 use mathlib.Core.List.{List, [], _∷_}
+use mathlib.Core.Option.{Option, none, some}
 use native.Mathlib.Omega.{arith}
 use lib.Dec.{leb, eqb}
 use lib.ListN.{length}
@@ -11,8 +12,9 @@ use Rattle.rules.specs.Calendar.{exists, startSlot, endOfTime}
 use Rattle.rules.specs.Name.{segmentDigit}
 use Rattle.rules.specs.Body.{formOfRecord, every, Record}
 use Rattle.rules.specs.File.{File, Outcome, refuse, file, takeFile, recordDates, updateDates, inTime, recordsIn, flagOf, nextAccess}
+use Rattle.rules.specs.Response.{parseResponse, takeParsed, takeResponse}
 use Rattle.rules.specs.Store.{Requests, storeLength, blockCount}
-use Rattle.rules.specs.Machine.{Machine, heldCount, fileTaken, takeBy, withFile as machineWith, step as machineStep}
+use Rattle.rules.specs.Machine.{Machine, heldCount, fileTaken, responseTaken, takeBy, withFile as machineWith, takeStep, step as machineStep}
 use Rattle.rules.specs.declared.Format.{Format}
 use Rattle.rules.specs.declared.Format.the-variants.{F201, F202, F203, F301}
 use Rattle.calendar.proofs.DateLaws.{exists-below}
@@ -22,7 +24,7 @@ use Rattle.laws.proofs.Bytes.{at-most-at}
 use Rattle.plant.specs.Plant.{validPlant}
 use Rattle.plant.specs.declared.Plant.{Plant}
 use Rattle.about_files.proofs.Record.{form-facts}
-use Rattle.about_files.proofs.Accepted.{Taken, taken}
+use Rattle.about_files.proofs.Accepted.{Taken, taken, TakenBy}
 use Rattle.pool.specs.Blocks.{freeCount}
 use Rattle.schedule.specs.Stored.{missing}
 use Rattle.about_store.specs.Agrees.{Agrees}
@@ -73,9 +75,26 @@ file-asks s t low body f q k a = go (f .name .format) (k .records .form) (k .rec
     go F203 e d = taken-asks s q a t (flagOf rs) (nextAccess rs) low (flag-low rs e) (next-low rs d)
     go F301 e d = a
 
+-- ---- what is carried
+
+-- what was read is a file that a unit of the plant takes, if it is one
+abbrev pub Carries : List ℕ → Outcome → Type 0
+Carries plant o = (f : File) → o ≡ file f → TakenBy plant f
+
+pub file-carries : (plant name body : List ℕ) → Carries plant (takeFile plant name body)
+file-carries plant name body f e = record { name = name; body = body; read = e }
+
+pub response-carries : (plant boundary bytes : List ℕ) → Carries plant (takeResponse plant boundary bytes)
+unfolding takeResponse
+response-carries plant boundary bytes f = go (parseResponse boundary bytes)
+  where
+    go : (q : Option (List ℕ × List ℕ)) → takeParsed plant q ≡ file f → TakenBy plant f
+    go none e = let z : _≡_ {A = ℕ} 0 1 = cc in absurd (omega arith)
+    go (some q) e = record { name = q .0; body = q .1; read = e }
+
 -- ---- the step
 
-module _ (p : Plant) (valid : validPlant p ≡ true) (n : ℕ) (s : State) (M : Machine) (h : Follows p n s M) (name body : List ℕ) where
+module _ (p : Plant) (valid : validPlant p ≡ true) (n : ℕ) (s : State) (M : Machine) (h : Follows p n s M) where
   abbrev u : Unit
   u = s .unit
 
@@ -83,7 +102,7 @@ module _ (p : Plant) (valid : validPlant p ≡ true) (n : ℕ) (s : State) (M : 
   abbrev after : File → State
   after f = record { unit = withFile f (s .store) u; store = storeWith (file f) (s .store) u }
 
-  module _ (l : n ≡ storeLength) (t : ℕ) (set : u .clock ≡ At t) (f : File) (read : takeFile (p .id) name body ≡ file f) where
+  module _ (l : n ≡ storeLength) (t : ℕ) (set : u .clock ≡ At t) (f : File) (by : TakenBy (p .id) f) where
     -- 14 applies on both sides or on neither
     full-same : fullRow f u .applies ≡ not (leb (heldCount (machineWith t f M)) blockCount)
     unfolding fullRow
@@ -91,19 +110,19 @@ module _ (p : Plant) (valid : validPlant p ≡ true) (n : ℕ) (s : State) (M : 
         let rs = recordsIn (f .body) in
         below-is (freeCount (u .pool)) (missing (u .pool) (u .floor) (runStart rs) (runLength rs))
         ∙ ap (λ (x : ℕ). not (leb (missing (u .pool) x (runStart rs) (runLength rs)) (freeCount (u .pool)))) (h .floor)
-        ∙ ap not (room-agrees (stored s) M (agreed p valid n s M h l) t f (taken-good (p .id) name body f read))
+        ∙ ap not (room-agrees (stored s) M (agreed p valid n s M h l) t f (taken-good (p .id) (by .name) (by .body) f (by .read)))
 
     taken-agrees : heldCount (machineWith t f M) ≤ blockCount → Agrees (stored (after f)) (machineWith t f M)
     unfolding withFile
     taken-agrees few =
         subst (λ (x : ℕ). Agrees (putRecords x (recordsIn (f .body)) (stored s)) (machineWith t f M)) (sym (h .floor))
-        (put-agrees (stored s) M t f (taken-good (p .id) name body f read) few (agreed p valid n s M h l))
+        (put-agrees (stored s) M t f (taken-good (p .id) (by .name) (by .body) f (by .read)) few (agreed p valid n s M h l))
 
     taken-follows : heldCount (machineWith t f M) ≤ blockCount → Follows p n (after f) (machineWith t f M)
     unfolding withFile machineWith
     taken-follows few =
         let a = taken-agrees few in
-        let asked = file-asks _ t (time-below p valid n s M h t set) body f (M .requests) (taken (p .id) name body f read) in
+        let asked = file-asks _ t (time-below p valid n s M h t set) (by .body) f (M .requests) (taken (p .id) (by .name) (by .body) f (by .read)) in
         record {
           plant = h .plant;
           size = a .full ∙ sym l;
@@ -121,49 +140,54 @@ module _ (p : Plant) (valid : validPlant p ≡ true) (n : ℕ) (s : State) (M : 
   unfolding fullRow
   full-cause f = refl
 
-  pub take-step : Sim p n (step (fileTaken name body) s) (machineStep (w p valid n) (fileTaken name body) M)
-  take-step = go (eqb n storeLength) refl
+  -- whatever was read
+  taken-step : (o : Outcome) → Carries (p .id) o → Sim p n (unit.takenStep o s) (takeStep (w p valid n) o M)
+  taken-step o from = go (eqb n storeLength) refl
     where
-      T : Type 0
-      T = Sim p n (step (fileTaken name body) s) (machineStep (w p valid n) (fileTaken name body) M)
-
-      -- the unit's plant is the machine's, and reads the same
-      reads : (o : Outcome) → takeFile (p .id) name body ≡ o → takeFile (u .plant .id) name body ≡ o
-      reads o e = ap (λ (q : Plant). takeFile (q .id) name body) (h .plant) ∙ e
-
-      by-room : (l : n ≡ storeLength) (t : ℕ) → u .clock ≡ At t → (f : File) → takeFile (p .id) name body ≡ file f
-          → (b : Bool) → leb (heldCount (machineWith t f M)) blockCount ≡ b → T
-      by-room l t c f e false g =
+      by-room : (l : n ≡ storeLength) (t : ℕ) → u .clock ≡ At t → (f : File) → TakenBy (p .id) f
+          → (b : Bool) → leb (heldCount (machineWith t f M)) blockCount ≡ b → Sim p n (unit.takenStep (file f) s) (takeStep (w p valid n) (file f) M)
+      by-room l t c f by false g =
           sim-by p n _ _ _ _
-          (unit.take-full s (full p valid n s M h l) (good p valid n s M h) (bytes p valid n s M h l) (ap isUnset c) name body f
-          (reads (file f) e) (full-same l t c f e ∙ ap not g)
+          (unit.take-full s (full p valid n s M h l) (good p valid n s M h) (bytes p valid n s M h l) (ap isUnset c) f (full-same l t c f by ∙ ap not g)
           ∙ ap (λ x. unit.refusal x s) (full-cause f))
-          (machine.take-full (w p valid n) M name body (eq-eqb n storeLength l) t (clock-some p valid n s M h t c) f e g)
+          (machine.take-full (w p valid n) M (eq-eqb n storeLength l) t (clock-some p valid n s M h t c) f g)
           (refl, h)
-      by-room l t c f e true g =
+      by-room l t c f by true g =
           sim-by p n _ _ _ _
-          (unit.take-done s (full p valid n s M h l) (good p valid n s M h) (bytes p valid n s M h l) (ap isUnset c) name body f
-          (reads (file f) e) (full-same l t c f e ∙ ap not g))
-          (machine.take-done (w p valid n) M name body (eq-eqb n storeLength l) t (clock-some p valid n s M h t c) f e g)
-          (refl, taken-follows l t c f e (leb-true (heldCount (machineWith t f M)) blockCount g))
+          (unit.take-done s (full p valid n s M h l) (good p valid n s M h) (bytes p valid n s M h l) (ap isUnset c) f (full-same l t c f by ∙ ap not g))
+          (machine.take-done (w p valid n) M (eq-eqb n storeLength l) t (clock-some p valid n s M h t c) f g)
+          (refl, taken-follows l t c f by (leb-true (heldCount (machineWith t f M)) blockCount g))
 
-      by-outcome : (l : n ≡ storeLength) (t : ℕ) → u .clock ≡ At t → (o : Outcome) → takeFile (p .id) name body ≡ o → T
-      by-outcome l t c (refuse x) e =
+      by-outcome : (l : n ≡ storeLength) (t : ℕ) → u .clock ≡ At t → (x : Outcome) → Carries (p .id) x
+          → Sim p n (unit.takenStep x s) (takeStep (w p valid n) x M)
+      by-outcome l t c (refuse x) k =
           sim-by p n _ _ _ _
-          (unit.take-refused s (full p valid n s M h l) (good p valid n s M h) (bytes p valid n s M h l) (ap isUnset c) name body x
-          (reads (refuse x) e))
-          (machine.take-refused (w p valid n) M name body (eq-eqb n storeLength l) t (clock-some p valid n s M h t c) x e)
+          (unit.take-refused s (full p valid n s M h l) (good p valid n s M h) (bytes p valid n s M h l) (ap isUnset c) x)
+          (machine.take-outcome (w p valid n) M (refuse x) (eq-eqb n storeLength l) t (clock-some p valid n s M h t c))
           (refl, h)
-      by-outcome l t c (file f) e = by-room l t c f e (leb (heldCount (machineWith t f M)) blockCount) refl
+      by-outcome l t c (file f) k = by-room l t c f (k f refl) (leb (heldCount (machineWith t f M)) blockCount) refl
 
-      by-clock : (l : n ≡ storeLength) (c : Clock) → u .clock ≡ c → T
+      by-clock : (l : n ≡ storeLength) (c : Clock) → u .clock ≡ c → Sim p n (unit.takenStep o s) (takeStep (w p valid n) o M)
       by-clock l Unset c =
-          sim-by p n _ _ _ _ (unit.take-unset s (full p valid n s M h l) (good p valid n s M h) (bytes p valid n s M h l) (ap isUnset c) name body)
-          (machine.take-unset (w p valid n) M name body (eq-eqb n storeLength l) (clock-none p valid n s M h c)) (refl, h)
-      by-clock l (At t) c = by-outcome l t c (takeFile (p .id) name body) refl
+          sim-by p n _ _ _ _ (unit.take-unset s (full p valid n s M h l) (good p valid n s M h) (bytes p valid n s M h l) (ap isUnset c) o)
+          (machine.take-unset (w p valid n) M o (eq-eqb n storeLength l) (clock-none p valid n s M h c)) (refl, h)
+      by-clock l (At t) c = by-outcome l t c o from
 
-      go : (b : Bool) → eqb n storeLength ≡ b → T
+      go : (b : Bool) → eqb n storeLength ≡ b → Sim p n (unit.takenStep o s) (takeStep (w p valid n) o M)
       go true e = by-clock (test-same n storeLength e) (u .clock) refl
       go false e =
-          sim-by p n _ _ _ _ (unit.take-length s (short p valid n s M h (test-other n storeLength e)) name body)
-          (machine.take-length (w p valid n) M name body e) (refl, h)
+          sim-by p n _ _ _ _ (unit.take-length s (short p valid n s M h (test-other n storeLength e)) o)
+          (machine.take-length (w p valid n) M o e) (refl, h)
+
+  -- the unit's plant is the machine's, and reads the same
+  same-plant : (read : List ℕ → Outcome) → Carries (p .id) (read (p .id)) → Sim p n (unit.takenStep (read (u .plant .id)) s) (takeStep (w p valid n) (read (p .id)) M)
+  same-plant read from =
+      subst (λ (q : Plant). Sim p n (unit.takenStep (read (q .id)) s) (takeStep (w p valid n) (read (p .id)) M)) (sym (h .plant)) (taken-step (read (p .id)) from)
+
+  pub take-step : (name body : List ℕ) → Sim p n (step (fileTaken name body) s) (machineStep (w p valid n) (fileTaken name body) M)
+  unfolding step machineStep
+  take-step name body = same-plant (λ x. takeFile x name body) (file-carries (p .id) name body)
+
+  pub response-step : (boundary bytes : List ℕ) → Sim p n (step (responseTaken boundary bytes) s) (machineStep (w p valid n) (responseTaken boundary bytes) M)
+  unfolding step machineStep
+  response-step boundary bytes = same-plant (λ x. takeResponse x boundary bytes) (response-carries (p .id) boundary bytes)

@@ -6,10 +6,10 @@ use mathlib.Core.List.{List}
 use lib.Dec.{ltb, eqb}
 use lib.ListN.{length}
 use Rattle.rules.specs.Calendar.{endOfTime, slotCount}
-use Rattle.rules.specs.File.{File, refuse, file, takeFile}
+use Rattle.rules.specs.File.{File, Outcome, refuse, file}
 use Rattle.rules.specs.Store.{storeLength, soundStore}
 use Rattle.rules.specs.Causes.{accepted, refused, numberOf, ofCeiling}
-use Rattle.rules.specs.Machine.{tick, fileTaken, ceilingOf}
+use Rattle.rules.specs.Machine.{tick, ceilingOf}
 use Rattle.rules.specs.Table.{firstOf}
 use Rattle.rules.specs.declared.Cause.{Cause}
 use Rattle.plant.specs.Plant.{settingsOf}
@@ -18,12 +18,16 @@ use Rattle.schedule.specs.Stored.{storedRate}
 use Rattle.unit.specs.Values.{isSound}
 use Rattle.unit.specs.Rows.{isUnset}
 use Rattle.unit.specs.Calls.{ticked, tickOf, ceilingOf as ceilingAt, ceilingAnswer}
-use Rattle.taking.specs.Taken.{takeOf, storeAfterTake, fullRow, storeWith, withFile}
-use Rattle.calls.specs.Step.{State, Step, step}
+use Rattle.taking.specs.Taken.{outcomeTaken, storeTaken, fullRow, storeWith, withFile}
+use Rattle.calls.specs.Step.{State, Step, stepDone, step}
 
 -- a refusal: the cause's number, and the state as it was
 abbrev pub refusal : Cause → State → Step
 refusal c s = (refused (numberOf c), s)
+
+-- the step of what was read, as a file or out of a response
+abbrev pub takenStep : Outcome → State → Step
+takenStep o s = stepDone (outcomeTaken (s .unit) (s .store) o) (storeTaken (s .unit) (s .store) o)
 
 module _ (s : State) where
   -- ---- 3
@@ -37,9 +41,9 @@ module _ (s : State) where
     unfolding step ceilingAt firstOf
     ceiling-length slot = rw short
 
-    pub take-length : (name body : List ℕ) → step (fileTaken name body) s ≡ refusal Cause.StoreLength s
-    unfolding step takeOf storeAfterTake firstOf
-    take-length name body = rw short
+    pub take-length : (o : Outcome) → takenStep o s ≡ refusal Cause.StoreLength s
+    unfolding outcomeTaken storeTaken firstOf
+    take-length o = rw short
 
   module _ (full : eqb (length (s .store)) storeLength ≡ true) (good : isSound (s .unit) ≡ true)
       (bytes : soundStore (heldOf (s .unit .pool)) (s .store) ≡ true) where
@@ -58,9 +62,9 @@ module _ (s : State) where
       unfolding step ceilingAt firstOf
       ceiling-unset slot = rw (full, good, bytes, unset)
 
-      pub take-unset : (name body : List ℕ) → step (fileTaken name body) s ≡ refusal Cause.ClockUnset s
-      unfolding step takeOf storeAfterTake firstOf
-      take-unset name body = rw (full, good, bytes, unset)
+      pub take-unset : (o : Outcome) → takenStep o s ≡ refusal Cause.ClockUnset s
+      unfolding outcomeTaken storeTaken firstOf
+      take-unset o = rw (full, good, bytes, unset)
 
     module _ (set : isUnset (s .unit .clock) ≡ false) where
       -- ---- ceiling
@@ -74,19 +78,17 @@ module _ (s : State) where
       unfolding step ceilingAt firstOf
       ceiling-done slot e = rw (full, good, bytes, set, e)
 
-      -- ---- file taken
+      -- ---- what was read, taken
 
-      module _ (name body : List ℕ) where
-        pub take-refused : (c : Cause) → takeFile (s .unit .plant .id) name body ≡ refuse c → step (fileTaken name body) s ≡ refusal c s
-        unfolding step takeOf storeAfterTake firstOf
-        take-refused c e = rw (full, good, bytes, set, e)
+      pub take-refused : (c : Cause) → takenStep (refuse c) s ≡ refusal c s
+      unfolding outcomeTaken storeTaken firstOf
+      take-refused c = rw (full, good, bytes, set)
 
-        pub take-full : (f : File) → takeFile (s .unit .plant .id) name body ≡ file f → fullRow f (s .unit) .applies ≡ true
-            → step (fileTaken name body) s ≡ refusal (fullRow f (s .unit) .cause) s
-        unfolding step takeOf storeAfterTake firstOf
-        take-full f e g = rw (full, good, bytes, set, e, g)
+      pub take-full : (f : File) → fullRow f (s .unit) .applies ≡ true → takenStep (file f) s ≡ refusal (fullRow f (s .unit) .cause) s
+      unfolding outcomeTaken storeTaken firstOf
+      take-full f g = rw (full, good, bytes, set, g)
 
-        pub take-done : (f : File) → takeFile (s .unit .plant .id) name body ≡ file f → fullRow f (s .unit) .applies ≡ false
-            → step (fileTaken name body) s ≡ (accepted, record { unit = withFile f (s .store) (s .unit); store = storeWith (file f) (s .store) (s .unit) })
-        unfolding step takeOf storeAfterTake firstOf
-        take-done f e g = rw (full, good, bytes, set, e, g)
+      pub take-done : (f : File) → fullRow f (s .unit) .applies ≡ false
+          → takenStep (file f) s ≡ (accepted, record { unit = withFile f (s .store) (s .unit); store = storeWith (file f) (s .store) (s .unit) })
+      unfolding outcomeTaken storeTaken firstOf
+      take-done f g = rw (full, good, bytes, set, g)

@@ -6,5 +6,6 @@ pub mod Refusals
 pub mod OwnRequest
 pub mod Installed
 pub mod Sentences
+pub mod Responses
 pub mod Apart
 pub mod AnyCall

@@ -7,7 +7,7 @@ use lib.ListN.{length}
 use Rattle.rules.specs.Calendar.{slotCount}
 use Rattle.rules.specs.File.{File, file, takeFile, recordsIn}
 use Rattle.rules.specs.Store.{storeLength, blockCount}
-use Rattle.rules.specs.Machine.{Call, tick, clockLost, fileTaken, failure, due, ceilingOf, command, freeBlocks, freshMachine, rateOf, anyRecord, after as machineAfter}
+use Rattle.rules.specs.Machine.{Call, tick, clockLost, fileTaken, responseTaken, failure, due, ceilingOf, command, freeBlocks, freshMachine, rateOf, anyRecord, after as machineAfter}
 use Rattle.rules.specs.declared.Answer.{Answer}
 use Rattle.plant.specs.Plant.{validPlant}
 use Rattle.plant.specs.declared.Plant.{Plant}
@@ -36,10 +36,12 @@ TakeUntouched =
     (record { pool = u .pool; store = store })
     (record { pool = takeOf u store name body .unit .pool; store = storeAfterTake u store name body })
 
+-- a file, by itself or in a response
 abbrev pub isFile : Call → Bool
 isFile (tick t) = false
 isFile clockLost = false
 isFile (fileTaken name body) = true
+isFile (responseTaken boundary bytes) = true
 isFile (failure kind status) = false
 isFile due = false
 isFile (ceilingOf slot) = false
@@ -50,6 +52,7 @@ abbrev pub isQuestion : Call → Bool
 isQuestion (tick t) = false
 isQuestion clockLost = false
 isQuestion (fileTaken name body) = false
+isQuestion (responseTaken boundary bytes) = false
 isQuestion (failure kind status) = false
 isQuestion due = true
 isQuestion (ceilingOf slot) = true

@@ -8,7 +8,7 @@ use lib.ListN.{length}
 use Rattle.rules.specs.Plant.{Settings}
 use Rattle.rules.specs.Store.{storeLength, member, soundStore}
 use Rattle.rules.specs.Causes.{Reply, refused, numberOf}
-use Rattle.rules.specs.Machine.{Machine, Told, Call, tick, clockLost, fileTaken, failure, due, ceilingOf, command, freeBlocks, freshMachine, isHeld, replies as machineReplies, after as machineAfter}
+use Rattle.rules.specs.Machine.{Machine, Told, Call, tick, clockLost, fileTaken, responseTaken, failure, due, ceilingOf, command, freeBlocks, freshMachine, isHeld, replies as machineReplies, after as machineAfter}
 use Rattle.rules.specs.declared.Answer.{Answer}
 use Rattle.rules.specs.declared.Cause.{Cause}
 use Rattle.plant.specs.Plant.{validPlant, settingsOf}
@@ -60,11 +60,12 @@ EveryListInstalled =
 
 -- ---- where there is no sound unit
 
--- 'the store is lent to tick, file taken and ceiling'
+-- 'the store is lent to tick, file taken and ceiling'; a response is taken as a file is
 abbrev pub lent : Call → Bool
 lent (tick t) = true
 lent clockLost = false
 lent (fileTaken name body) = true
+lent (responseTaken boundary bytes) = true
 lent (failure kind status) = false
 lent due = false
 lent (ceilingOf slot) = true

@@ -7,8 +7,9 @@ use mathlib.Core.Option.{Option, none, some}
 use native.Mathlib.Omega.{arith}
 use borrow.Author.Tests.{ne-eqb}
 use Rattle.rules.specs.Causes.{Reply, accepted, refused, numberOf, ofDue, ofCeiling, ofCommand, ofFreeBlocks}
-use Rattle.rules.specs.Machine.{Call, tick, clockLost, fileTaken, failure, due, ceilingOf, command, freeBlocks}
-use Rattle.rules.specs.File.{takeFile}
+use Rattle.rules.specs.Machine.{Call, tick, clockLost, fileTaken, responseTaken, failure, due, ceilingOf, command, freeBlocks}
+use Rattle.rules.specs.File.{Outcome, takeFile}
+use Rattle.rules.specs.Response.{takeResponse}
 use Rattle.rules.specs.Table.{firstOf}
 use Rattle.rules.specs.declared.Cause.{Cause}
 use Rattle.rules.specs.declared.Ceiling.{Ceiling}
@@ -20,7 +21,7 @@ use Rattle.plant.specs.Plant.{isKept, settingsOf}
 use Rattle.unit.specs.Values.{isSound}
 use Rattle.unit.specs.Rows.{lengthRow, unitRow, soundRow, clockRow, tickRow, statusRow}
 use Rattle.unit.specs.Calls.{ticked, lost, withFailure, doneBy, tickOf, lostOf, failureOf, dueOf, ceilingOf as ceilingAt, commandOf, freeOf}
-use Rattle.taking.specs.Taken.{taken, takeRows, takeOf, storeAfterTake}
+use Rattle.taking.specs.Taken.{taken, outcomeRows, outcomeTaken, storeTaken}
 use Rattle.calls.specs.Step.{State, stepDone, step, replies, after}
 use Rattle.unit.specs.declared.Unit.{Unit}
 use Rattle.c_structs.specs.Held.{opened, shutOf, handed}
@@ -72,15 +73,19 @@ module _ (s : State) (kept : isKept (settingsOf (s .unit .plant)) ≡ true) wher
   back : opened (shutOf u) ≡ u
   back = unit-back u kept
 
+  taken-same : (o : Outcome) → handedStep (handed (shutOf u) (outcomeTaken u (s .store) o)) (storeTaken u (s .store) o)
+      ≡ (stepDone (outcomeTaken u (s .store) o) (storeTaken u (s .store) o) .0, shutState (stepDone (outcomeTaken u (s .store) o) (storeTaken u (s .store) o) .1))
+  unfolding outcomeTaken
+  taken-same o = done-same (firstOf (outcomeRows u (s .store) o)) (taken o (s .store) u) u (storeTaken u (s .store) o)
+
   kept-same : (c : Call) → heldStep c (shutState s) ≡ (step c s .0, shutState (step c s .1))
-  unfolding heldStep step tickOf lostOf takeOf failureOf
+  unfolding heldStep step tickOf lostOf failureOf
   kept-same (tick t) =
       let rows = lengthRow (s .store) ∷ soundRow u (s .store) ∷ tickRow t ∷ [] in
       rw back (done-same (firstOf rows) (ticked (s .store) t u) u (s .store))
   kept-same clockLost = rw back (done-same (firstOf (unitRow u ∷ [])) (lost u) u (s .store))
-  kept-same (fileTaken name body) =
-      let rows = takeRows u (s .store) name body in
-      rw back (done-same (firstOf rows) (taken (takeFile (u .plant .id) name body) (s .store) u) u (storeAfterTake u (s .store) name body))
+  kept-same (fileTaken name body) = rw back (taken-same (takeFile (u .plant .id) name body))
+  kept-same (responseTaken boundary bytes) = rw back (taken-same (takeResponse (u .plant .id) boundary bytes))
   kept-same (failure kind status) =
       let rows = unitRow u ∷ clockRow u ∷ statusRow status ∷ [] in
       rw back (done-same (firstOf rows) (withFailure kind status u) u (s .store))

@@ -8,11 +8,11 @@ use lib.ListN.{length}
 use Rattle.rules.specs.Store.{storeLength}
 use Rattle.rules.specs.Table.{firstOf}
 use Rattle.rules.specs.Causes.{Reply}
-use Rattle.rules.specs.Machine.{Call, tick, clockLost, fileTaken, failure, due, ceilingOf, command, freeBlocks}
+use Rattle.rules.specs.Machine.{Call, tick, clockLost, fileTaken, responseTaken, failure, due, ceilingOf, command, freeBlocks}
 use Rattle.unit.specs.Values.{isSound}
 use Rattle.unit.specs.Calls.{tickOf, lostOf, failureOf, dueOf, ceilingOf as ceilingAt, commandOf, freeOf}
 use Rattle.unit.specs.Request.{requestOf}
-use Rattle.taking.specs.Taken.{takeOf, storeAfterTake}
+use Rattle.taking.specs.Taken.{outcomeTaken, storeTaken}
 use Rattle.c_structs.specs.Held.{opened, handed}
 use Rattle.c_structs.specs.declared.HeldUnit.{HeldUnit}
 use Rattle.about_calls_c.specs.Lists.{HeldState, heldStep, heldReplies, heldAfter}
@@ -24,7 +24,7 @@ module _ (u : HeldUnit) (bad : isSound (opened u) ≡ false) (store : List ℕ) 
   s = record { unit = u; store = store }
 
   pub step-refused : (c : Call) → heldStep c s ≡ (unsoundReply store c, s)
-  unfolding heldStep tickOf lostOf takeOf storeAfterTake failureOf dueOf ceilingAt commandOf freeOf firstOf handed
+  unfolding heldStep tickOf lostOf outcomeTaken storeTaken failureOf dueOf ceilingAt commandOf freeOf firstOf handed
   step-refused (tick t) = go (eqb (length store) storeLength) refl
     where
       go : (b : Bool) → eqb (length store) storeLength ≡ b → heldStep (tick t) s ≡ (unsoundReply store (tick t), s)
@@ -34,6 +34,11 @@ module _ (u : HeldUnit) (bad : isSound (opened u) ≡ false) (store : List ℕ) 
   step-refused (fileTaken name body) = go (eqb (length store) storeLength) refl
     where
       go : (b : Bool) → eqb (length store) storeLength ≡ b → heldStep (fileTaken name body) s ≡ (unsoundReply store (fileTaken name body), s)
+      go true e = rw (e, bad)
+      go false e = rw e
+  step-refused (responseTaken boundary bytes) = go (eqb (length store) storeLength) refl
+    where
+      go : (b : Bool) → eqb (length store) storeLength ≡ b → heldStep (responseTaken boundary bytes) s ≡ (unsoundReply store (responseTaken boundary bytes), s)
       go true e = rw (e, bad)
       go false e = rw e
   step-refused (failure kind status) = rw bad

@@ -8,7 +8,7 @@ use mathlib.Core.List.{List}
 use lib.ListN.{length}
 use denote.Ref.{now}
 use denote.Triple.Clauses.{Lasts, atExit}
-use Rattle.rules.specs.Machine.{tick, clockLost, fileTaken, failure, due, ceilingOf, command, freeBlocks}
+use Rattle.rules.specs.Machine.{tick, clockLost, fileTaken, responseTaken, failure, due, ceilingOf, command, freeBlocks}
 use Rattle.rules.specs.Writer.{writtenOf, bufferAfter}
 use Rattle.rules.specs.declared.Kind.{Kind}
 use Rattle.unit.specs.Request.{requestOf}
@@ -29,6 +29,8 @@ use Rattle.jagwelu.proofs.jag_tick.Reads as jag-tick
 use Rattle.jagwelu.proofs.jag_clock_lost.Reads as jag-clock-lost
 use Rattle.jagwelu.proofs.jag_take_file as taking
 use Rattle.jagwelu.proofs.jag_take_file.Reads as jag-take-file
+use Rattle.jagwelu.proofs.jag_take_response as responding
+use Rattle.jagwelu.proofs.jag_take_response.Reads as jag-take-response
 use Rattle.jagwelu.proofs.jag_update_failed.Reads as jag-update-failed
 use Rattle.jagwelu.proofs.jag_fixed_failed.Reads as jag-fixed-failed
 use Rattle.jagwelu.proofs.jag_due.Reads as jag-due
@@ -58,6 +60,10 @@ pub record EachSays : Type 0 where
       → let e = atExit taking.ended κs (u, (name, (body, (store, tt)))) w in
       jag-take-file.Learnt κs (u, (name, (body, (store, tt)))) r e
       → handedStep r (now (e .1 .1 .1 .0)) ≡ heldStep (fileTaken (now name) (now body)) (heldWith u (now store))
+  pub responses : (κs : _) (u : HeldUnit) (boundary bytes store : _) (r : Handed) (w : Lasts responding.ended κs (u, (boundary, (bytes, (store, tt)))))
+      → let e = atExit responding.ended κs (u, (boundary, (bytes, (store, tt)))) w in
+      jag-take-response.Learnt κs (u, (boundary, (bytes, (store, tt)))) r e
+      → handedStep r (now (e .1 .1 .1 .0)) ≡ heldStep (responseTaken (now boundary) (now bytes)) (heldWith u (now store))
   pub update : (κs : _) (u : HeldUnit) (status : ℕ) (store : List ℕ) (r : Handed) (e : _) → jag-update-failed.Learnt κs (u, (status, tt)) r e
       → handedStep r store ≡ heldStep (failure Kind.Update status) (heldWith u store)
   pub fixed : (κs : _) (u : HeldUnit) (status : ℕ) (store : List ℕ) (r : Handed) (e : _) → jag-fixed-failed.Learnt κs (u, (status, tt)) r e
@@ -90,6 +96,7 @@ pub record EachAsks : Type 0 where
   pub ticks : (κs : _) (a : _) → jag-tick.Asked κs a
   pub lost : (κs : _) (a : _) → jag-clock-lost.Asked κs a
   pub taken : (κs : _) (a : _) → jag-take-file.Asked κs a
+  pub responses : (κs : _) (a : _) → jag-take-response.Asked κs a
   pub update : (κs : _) (a : _) → jag-update-failed.Asked κs a
   pub fixed : (κs : _) (a : _) → jag-fixed-failed.Asked κs a
   pub dues : (κs : _) (a : _) → jag-due.Asked κs a

@@ -7,9 +7,9 @@ use mathlib.Core.List.{List, [], _∷_}
 use lib.Dec.{eqb}
 use Rattle.rules.specs.Causes.{Reply, accepted, refused, ceiling, update, fixed, nothing, parts, blocks}
 use Rattle.rules.specs.Plant.{Settings}
-use Rattle.rules.specs.Machine.{Call, tick, clockLost, fileTaken, failure, due, ceilingOf, command, freeBlocks}
+use Rattle.rules.specs.Machine.{Call, tick, clockLost, fileTaken, responseTaken, failure, due, ceilingOf, command, freeBlocks}
 use Rattle.unit.specs.Calls.{tickOf, lostOf, failureOf, dueOf, ceilingOf as ceilingAt, commandOf, freeOf}
-use Rattle.taking.specs.Taken.{takeOf, storeAfterTake}
+use Rattle.taking.specs.Taken.{takeOf, storeAfterTake, responseOf, storeAfterResponse}
 use Rattle.calls.specs.Step.{State, replies, after}
 use Rattle.unit.specs.Values.{installedUnit}
 use Rattle.c_structs.specs.Held.{opened, shutOf, handed, newly}
@@ -56,6 +56,8 @@ heldStep (tick t) s = handedStep (handed (s .unit) (tickOf (opened (s .unit)) (s
 heldStep clockLost s = handedStep (handed (s .unit) (lostOf (opened (s .unit)))) (s .store)
 heldStep (fileTaken name body) s =
     handedStep (handed (s .unit) (takeOf (opened (s .unit)) (s .store) name body)) (storeAfterTake (opened (s .unit)) (s .store) name body)
+heldStep (responseTaken boundary bytes) s =
+    handedStep (handed (s .unit) (responseOf (opened (s .unit)) (s .store) boundary bytes)) (storeAfterResponse (opened (s .unit)) (s .store) boundary bytes)
 heldStep (failure kind status) s = handedStep (handed (s .unit) (failureOf (opened (s .unit)) kind status)) (s .store)
 heldStep due s = (dueMeans (dueNumbers (dueOf (opened (s .unit)))), s)
 heldStep (ceilingOf slot) s = (ceilingMeans (ceilingNumbers (ceilingAt (opened (s .unit)) (s .store) slot)), s)

@@ -115,6 +115,12 @@ taken plant name body f e =
     let m = taken-exactly plant name body f .0 e in
     schedule-read body f (m .1) (bytes-accepted (some plant) name body f (m .0))
 
+-- the same, whichever name and body it came by
+pub record TakenBy (plant : List ℕ) (f : File) : Type 0 where
+  pub name : List ℕ
+  pub body : List ℕ
+  pub read : takeFile plant name body ≡ file f
+
 -- ---- how many rates and bytes a format's records have at the most
 
 pub record Bounded (f : Format) (rs : List Record) : Type 0 where

@@ -4,7 +4,7 @@ use mathlib.Core.Path.{_≡_, refl}
 use mathlib.Core.List.{List}
 use Rattle.rules.specs.declared.Kind.{Kind}
 use Rattle.unit.specs.Calls.{tickOf, lostOf, failureOf}
-use Rattle.taking.specs.Taken.{takeOf, storeAfterTake}
+use Rattle.taking.specs.Taken.{takeOf, storeAfterTake, responseOf, storeAfterResponse}
 use Rattle.unit.specs.Asked.{dueAsked, ceilingAsked, commandAsked, freeAsked}
 use Rattle.calls.specs.Step.{step}
 use Rattle.calls.specs.Stepping.{answered, dueReplied, ceilingReplied, commandReplied, freeReplied, steppedOf, storeOf, StepsAgree}
@@ -17,10 +17,10 @@ use Rattle.unit.specs.declared.FreeAsked.{FreeAsked}
 use Rattle.calls.specs.declared.Call.{Call}
 use Rattle.calls.specs.declared.Stepped.{Stepped}
 
-module _ (u : Unit) (store name body : List ℕ) where
+module _ (u : Unit) (store label bytes : List ℕ) where
   -- what the call returns, and the store after it
   abbrev pub Steps : Call → Stepped → List ℕ → Type 0
-  Steps call r after = (r ≡ steppedOf u call name body store) × (after ≡ storeOf u call name body store)
+  Steps call r after = (r ≡ steppedOf u call label bytes store) × (after ≡ storeOf u call label bytes store)
 
   module _ (call : Call) (r : Stepped) where
     module _ (d : Done) (r≡ : r ≡ answered d) where
@@ -30,8 +30,12 @@ module _ (u : Unit) (store name body : List ℕ) where
       pub lost-step : call ≡ Call.ClockLost → d ≡ lostOf u → Steps call r store
       lost-step k e = rw (k, r≡, e) (refl, refl)
 
-      pub file-step : call ≡ Call.File → (after : List ℕ) → d ≡ takeOf u store name body → after ≡ storeAfterTake u store name body → Steps call r after
+      pub file-step : call ≡ Call.File → (after : List ℕ) → d ≡ takeOf u store label bytes → after ≡ storeAfterTake u store label bytes → Steps call r after
       file-step k after e s = rw (k, r≡, e) (refl, s)
+
+      pub response-step : call ≡ Call.Response → (after : List ℕ) → d ≡ responseOf u store label bytes → after ≡ storeAfterResponse u store label bytes
+          → Steps call r after
+      response-step k after e s = rw (k, r≡, e) (refl, s)
 
       pub failure-step : (kind : Kind) (status : ℕ) → call ≡ Call.Failure kind status → d ≡ failureOf u kind status → Steps call r store
       failure-step kind status k e = rw (k, r≡, e) (refl, refl)
@@ -53,11 +57,12 @@ module _ (u : Unit) (store name body : List ℕ) where
 
 pub steps-agree : StepsAgree
 unfolding step
-steps-agree u (Call.Tick t) name body store = refl
-steps-agree u Call.ClockLost name body store = refl
-steps-agree u Call.File name body store = refl
-steps-agree u (Call.Failure kind status) name body store = refl
-steps-agree u Call.Due name body store = refl
-steps-agree u (Call.Ceiling slot) name body store = refl
-steps-agree u Call.Command name body store = refl
-steps-agree u Call.FreeBlocks name body store = refl
+steps-agree u (Call.Tick t) label bytes store = refl
+steps-agree u Call.ClockLost label bytes store = refl
+steps-agree u Call.File label bytes store = refl
+steps-agree u Call.Response label bytes store = refl
+steps-agree u (Call.Failure kind status) label bytes store = refl
+steps-agree u Call.Due label bytes store = refl
+steps-agree u (Call.Ceiling slot) label bytes store = refl
+steps-agree u Call.Command label bytes store = refl
+steps-agree u Call.FreeBlocks label bytes store = refl

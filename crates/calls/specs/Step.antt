@@ -2,9 +2,9 @@
 use mathlib.Core.List.{List, [], _∷_}
 use Prim.Native.Nat.{ℕ}
 use Rattle.rules.specs.Causes.{Reply, ofAnswer, ofDue, ofCeiling, ofCommand, ofFreeBlocks}
-use Rattle.rules.specs.Machine.{Call, tick, clockLost, fileTaken, failure, due, ceilingOf, command, freeBlocks}
+use Rattle.rules.specs.Machine.{Call, tick, clockLost, fileTaken, responseTaken, failure, due, ceilingOf, command, freeBlocks}
 use Rattle.unit.specs.Calls.{tickOf, lostOf, failureOf, dueOf, ceilingOf as ceilingAt, commandOf, freeOf}
-use Rattle.taking.specs.Taken.{takeOf, storeAfterTake}
+use Rattle.taking.specs.Taken.{takeOf, storeAfterTake, responseOf, storeAfterResponse}
 use Rattle.unit.specs.declared.Unit.{Unit}
 use Rattle.unit.specs.declared.Done.{Done}
 
@@ -23,6 +23,8 @@ unfoldable pub step : Call → State → Step
 step (tick t) s = stepDone (tickOf (s .unit) (s .store) t) (s .store)
 step clockLost s = stepDone (lostOf (s .unit)) (s .store)
 step (fileTaken name body) s = stepDone (takeOf (s .unit) (s .store) name body) (storeAfterTake (s .unit) (s .store) name body)
+step (responseTaken boundary bytes) s =
+    stepDone (responseOf (s .unit) (s .store) boundary bytes) (storeAfterResponse (s .unit) (s .store) boundary bytes)
 step (failure kind status) s = stepDone (failureOf (s .unit) kind status) (s .store)
 step due s = (ofDue (dueOf (s .unit)), s)
 step (ceilingOf slot) s = (ofCeiling (ceilingAt (s .unit) (s .store) slot), s)

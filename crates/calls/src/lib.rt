@@ -14,11 +14,12 @@ use unit::DueAsked;
 use unit::FreeAsked;
 use unit::Unit;
 
-// A call, with the values that it is given besides unit and store; name and body of a file are lent.
+// A call, with the values that it is given besides unit and store; name and body of a file, boundary and bytes of a response are lent.
 pub enum Call {
     Tick(u64),
     ClockLost,
     File,
+    Response,
     Failure(Kind, u64),
     Due,
     Ceiling(u64),
@@ -98,15 +99,16 @@ fn free_replied(asked: FreeAsked) -> Stepped
     }
 }
 
-// A call, whichever it is; only a file looks at name and body.
-pub fn step(unit: Unit, call: Call, name: &[u8], body: &[u8], store: &mut [u8]) -> Stepped
-    ensures answer { λ r. ⌜ r ≡ steppedOf unit call (now (name .entry)) (now (body .entry)) (now (store .entry)) ⌝ }
-    ensures kept { λ _. ⌜ now (store .exit) ≡ storeOf unit call (now (name .entry)) (now (body .entry)) (now (store .entry)) ⌝ }
+// A call, whichever it is. Only a file looks at what is lent, as its name and body, and a response, as its boundary and bytes.
+pub fn step(unit: Unit, call: Call, label: &[u8], bytes: &[u8], store: &mut [u8]) -> Stepped
+    ensures answer { λ r. ⌜ r ≡ steppedOf unit call (now (label .entry)) (now (bytes .entry)) (now (store .entry)) ⌝ }
+    ensures kept { λ _. ⌜ now (store .exit) ≡ storeOf unit call (now (label .entry)) (now (bytes .entry)) (now (store .entry)) ⌝ }
 {
     match call {
         Call::Tick(t) => answered(unit.tick(t, store)),
         Call::ClockLost => answered(unit.clock_lost()),
-        Call::File => answered(taking::take_file(unit, name, body, store)),
+        Call::File => answered(taking::take_file(unit, label, bytes, store)),
+        Call::Response => answered(taking::take_response(unit, label, bytes, store)),
         Call::Failure(kind, status) => answered(unit.failure(kind, status)),
         Call::Due => due_replied(unit.due()),
         Call::Ceiling(slot) => ceiling_replied(unit.ceiling(slot, store)),

@@ -8,8 +8,9 @@ use native.Mathlib.Omega.{arith}
 use borrow.Author.Tests.{le-leb, lt-leb, leb-true, leb-false}
 use lib.Dec.{leb, eqb, lit<}
 use lib.ListN.{length, getD, drop, take, drop-of-length-le}
-use Rattle.rules.specs.Digits.{allAtMost, allAscii, sameBytes, valueFrom}
+use Rattle.rules.specs.Digits.{allAtMost, allAscii, fromAscii, sameBytes, valueFrom}
 use Rattle.rules.specs.File.{sum}
+use Rattle.laws.proofs.Tests.{both}
 use Rattle.laws.proofs.Bytes.{at-next}
 
 -- the greater of two numbers is at most m where both are
@@ -85,6 +86,25 @@ module _ (s : List ℕ) (i acc : ℕ) where
   pub value-end : length s ≤ i → valueFrom acc (drop i s) ≡ acc
   unfolding valueFrom
   value-end h = rw drop-of-length-le refl
+
+  -- the same of ASCII digits
+  pub number-step : i < length s → valueFrom acc (fromAscii (drop i s)) ≡ valueFrom (acc * 10 + (getD s i 0 - 48)) (fromAscii (drop (i + 1) s))
+  unfolding valueFrom
+  number-step h = rw (at-next s i h) refl
+
+  pub number-end : length s ≤ i → valueFrom acc (fromAscii (drop i s)) ≡ acc
+  unfolding valueFrom
+  number-end h = rw drop-of-length-le refl
+
+-- an ASCII digit, and the rest
+pub ascii-next : (s : List ℕ) (i : ℕ) → i < length s → allAscii (drop i s) ≡ true
+    → (48 ≤ getD s i 0) × (getD s i 0 ≤ 57) × (allAscii (drop (i + 1) s) ≡ true)
+unfolding allAscii
+ascii-next s i h e =
+    let x = getD s i 0 in
+    let t = both (leb 48 x && leb x 57) (allAscii (drop (i + 1) s)) (rw (at-next s i h) at e) in
+    let d = both (leb 48 x) (leb x 57) (t .0) in
+    (leb-true 48 x (d .0), leb-true x 57 (d .1), t .1)
 
 -- a digit more, and a byte that is no digit
 module _ (s : List ℕ) (i : ℕ) (h : i < length s) where

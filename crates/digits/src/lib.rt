@@ -6,7 +6,7 @@ ghost use Prim.Native.Nat.{_≤_, max};
 ghost use lib.ListN.{length};
 ghost use Rattle.rules.specs.Digits.{allAtMost, allAscii, sameBytes};
 ghost use Rattle.rules.specs.File.{sum};
-ghost use Rattle.digits.specs.Decimal.{decimalOf, ratesSum};
+ghost use Rattle.digits.specs.Decimal.{decimalOf, asciiOf, ratesSum};
 pub use buffer::put;
 
 // A number of at most 14 digits, or what is none.
@@ -92,6 +92,25 @@ pub fn number(s: &[u8]) -> Decimal
             return Decimal::Broken;
         }
         value = value * 10 + d;
+        i += 1;
+    }
+    Decimal::Number(value)
+}
+
+// The number that at most 14 ASCII digits stand for, the highest first.
+pub fn ascii_number(s: &[u8]) -> Decimal
+    ensures { λ r. ⌜ r ≡ asciiOf (now (s .entry)) ⌝ }
+{
+    if 14 < s.len() {
+        return Decimal::Broken;
+    }
+    if !all_ascii(s) {
+        return Decimal::Broken;
+    }
+    let mut value: u64 = 0;
+    let mut i = 0;
+    while i < s.len() {
+        value = value * 10 + (s[i] - b'0') as u64;
         i += 1;
     }
     Decimal::Number(value)

@@ -9,7 +9,7 @@ ghost use Rattle.rules.specs.Reading.{readingOf};
 ghost use Rattle.rules.specs.Writer.{writeBody, writtenOf, bufferAfter};
 ghost use Rattle.rules.specs.declared.Kind.{Kind as KindOf};
 ghost use Rattle.unit.specs.Calls.{tickOf, lostOf, failureOf, dueOf, ceilingOf, commandOf, freeOf};
-ghost use Rattle.taking.specs.Taken.{takeOf, storeAfterTake};
+ghost use Rattle.taking.specs.Taken.{takeOf, storeAfterTake, responseOf, storeAfterResponse};
 ghost use Rattle.unit.specs.Request.{requestOf};
 ghost use Rattle.unit.specs.Values.{installedUnit};
 ghost use Rattle.plan.specs.Fields.{fieldsOf};
@@ -75,6 +75,21 @@ pub extern "C" fn jag_take_file(
 {
     let opened = c_structs::open(unit);
     let done = taking::take_file(opened, name, body, store);
+    c_structs::hand(unit, done)
+}
+
+#[no_mangle]
+pub extern "C" fn jag_take_response(
+    unit: HeldUnit,
+    boundary: &[u8],
+    bytes: &[u8],
+    store: &mut [u8],
+) -> Handed
+    ensures answer { λ r. ⌜ r ≡ handed unit (responseOf (opened unit) (now (store .entry)) (now (boundary .entry)) (now (bytes .entry))) ⌝ }
+    ensures kept { λ _. ⌜ now (store .exit) ≡ storeAfterResponse (opened unit) (now (store .entry)) (now (boundary .entry)) (now (bytes .entry)) ⌝ }
+{
+    let opened = c_structs::open(unit);
+    let done = taking::take_response(opened, boundary, bytes, store);
     c_structs::hand(unit, done)
 }
 

@@ -309,11 +309,15 @@ abbrev pub takeOutcome : ℕ → Outcome → Machine → Step
 takeOutcome t (refuse c) M = refusal c M
 takeOutcome t (file f) M = check (leb (heldCount (withFile t f M)) blockCount) Cause.Full (accepted, withFile t f M) M
 
+-- 3, 5, then what was read: 'Taking a response is then taking that name and file, and counts as such in the plain machine'
+abbrev pub takeStep : Told → Outcome → Machine → Step
+takeStep w o M = checkStore w (atClock (M .clock) (λ t. takeOutcome t o M) M) M
+
 unfoldable pub step : Told → Call → Machine → Step
 step w (tick t) M = checkStore w (check (ltb t endOfTime) Cause.Range (accepted, ticked (w .settings) t M) M) M
 step w clockLost M = (accepted, lostClock M)
-step w (fileTaken name body) M = checkStore w (atClock (M .clock) (λ t. takeOutcome t (takeFile (w .plant) name body) M) M) M
-step w (responseTaken boundary s) M = checkStore w (atClock (M .clock) (λ t. takeOutcome t (takeResponse (w .plant) boundary s) M) M) M
+step w (fileTaken name body) M = takeStep w (takeFile (w .plant) name body) M
+step w (responseTaken boundary s) M = takeStep w (takeResponse (w .plant) boundary s) M
 step w (failure kind status) M =
     atClock (M .clock)
     (λ t. check (isStatus status) Cause.Range (accepted, withRequests (failed (w .settings) (lastDigit (w .plant)) kind t status (M .requests)) M) M)

@@ -1,10 +1,11 @@
--- A file taken: what is answered and left. A refused file leaves unit and store as they were.
+-- A file or a response taken: what is answered and left. A refusal leaves unit and store as they were.
 use Prim.Native.Nat.{ℕ}
 use mathlib.Core.Bool.{true}
 use mathlib.Core.List.{List, [], _∷_}
 use mathlib.Core.Option.{Option, none, some}
 use lib.Dec.{ltb}
 use Rattle.rules.specs.File.{File, Outcome, refuse, file, takeFile, recordsIn}
+use Rattle.rules.specs.Response.{takeResponse}
 use Rattle.rules.specs.Machine.{takeBy}
 use Rattle.rules.specs.Table.{Row, row, firstOf}
 use Rattle.rules.specs.declared.Cause.{Cause}
@@ -17,13 +18,15 @@ use Rattle.unit.specs.Calls.{doneBy, clockTime}
 use Rattle.unit.specs.declared.Unit.{Unit}
 use Rattle.unit.specs.declared.Done.{Done}
 
+-- ---- what is taken, whether it came as a file or in a response
+
 -- 14: 'more than 16 months would be held'
 unfoldable pub fullRow : File → Unit → Row
 fullRow f u =
     let rs = recordsIn (f .body) in
     row Cause.Full (ltb (freeCount (u .pool)) (missing (u .pool) (u .floor) (runStart rs) (runLength rs)))
 
--- 7 to 13 by reading, then 14
+-- 17 or 7 to 13 by reading, then 14
 abbrev pub outcomeRow : Outcome → Unit → Row
 outcomeRow (refuse c) u = row c true
 outcomeRow (file f) u = fullRow f u
@@ -42,13 +45,11 @@ abbrev pub taken : Outcome → List ℕ → Unit → Unit
 taken (refuse c) store u = u
 taken (file f) store u = withFile f store u
 
-abbrev pub takeRows : Unit → List ℕ → List ℕ → List ℕ → List Row
-takeRows u store name body =
-    lengthRow store ∷ soundRow u store ∷ clockRow u ∷ outcomeRow (takeFile (u .plant .id) name body) u ∷ []
+abbrev pub outcomeRows : Unit → List ℕ → Outcome → List Row
+outcomeRows u store o = lengthRow store ∷ soundRow u store ∷ clockRow u ∷ outcomeRow o u ∷ []
 
-unfoldable pub takeOf : Unit → List ℕ → List ℕ → List ℕ → Done
-takeOf u store name body =
-    doneBy (firstOf (takeRows u store name body)) (taken (takeFile (u .plant .id) name body) store u) u
+unfoldable pub outcomeTaken : Unit → List ℕ → Outcome → Done
+outcomeTaken u store o = doneBy (firstOf (outcomeRows u store o)) (taken o store u) u
 
 -- the store afterwards
 abbrev pub storeWith : Outcome → List ℕ → Unit → List ℕ
@@ -59,6 +60,21 @@ abbrev pub storeBy : Option Cause → List ℕ → List ℕ → List ℕ
 storeBy none new old = new
 storeBy (some c) new old = old
 
-unfoldable pub storeAfterTake : Unit → List ℕ → List ℕ → List ℕ → List ℕ
-storeAfterTake u store name body =
-    storeBy (firstOf (takeRows u store name body)) (storeWith (takeFile (u .plant .id) name body) store u) store
+unfoldable pub storeTaken : Unit → List ℕ → Outcome → List ℕ
+storeTaken u store o = storeBy (firstOf (outcomeRows u store o)) (storeWith o store u) store
+
+-- ---- a file
+
+abbrev pub takeOf : Unit → List ℕ → List ℕ → List ℕ → Done
+takeOf u store name body = outcomeTaken u store (takeFile (u .plant .id) name body)
+
+abbrev pub storeAfterTake : Unit → List ℕ → List ℕ → List ℕ → List ℕ
+storeAfterTake u store name body = storeTaken u store (takeFile (u .plant .id) name body)
+
+-- ---- a response
+
+abbrev pub responseOf : Unit → List ℕ → List ℕ → List ℕ → Done
+responseOf u store boundary s = outcomeTaken u store (takeResponse (u .plant .id) boundary s)
+
+abbrev pub storeAfterResponse : Unit → List ℕ → List ℕ → List ℕ → List ℕ
+storeAfterResponse u store boundary s = storeTaken u store (takeResponse (u .plant .id) boundary s)

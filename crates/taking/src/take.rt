@@ -1,8 +1,10 @@
 // A file taken: read, its months counted, its rates put into the store, its flag or segment noted.
 ghost use mathlib.Core.Path.{_≡_};
 ghost use Rattle.polling.specs.Requests.{requestsOf};
+ghost use Rattle.taking.specs.Ready.{Checked};
 ghost use Rattle.taking.specs.Taken.{takeOf, storeAfterTake};
 ghost use Rattle.taking.specs.Taking.{takeSummary, filed};
+use crate::ready::Ready;
 use polling::Requests;
 use pool::Pool;
 use rules::Answer;
@@ -10,7 +12,6 @@ use rules::Cause;
 use rules::Format;
 use rules::Reading;
 use rules::Summary;
-use unit::Clock;
 use unit::Done;
 use unit::Unit;
 
@@ -46,24 +47,15 @@ fn filed(unit: Unit, pool: Pool, requests: Requests) -> Done
     }
 }
 
-// A file, by its name and body. All is decided before the first byte of the store is written.
-pub fn take_file(unit: Unit, name: &[u8], body: &[u8], store: &mut [u8]) -> Done
+// A file, by its name and body, where unit, store and clock were looked at. All is decided before the first byte of the store is written.
+pub(crate) fn take_checked(unit: Unit, t: u32, name: &[u8], body: &[u8], store: &mut [u8]) -> Done
+    requires { ⌜ Checked unit (now store) t ⌝ }
     ensures answer { λ r. ⌜ r ≡ takeOf unit (now (store .entry)) (now (name .entry)) (now (body .entry)) ⌝ }
     ensures kept { λ _. ⌜ now (store .exit) ≡ storeAfterTake unit (now (store .entry)) (now (name .entry)) (now (body .entry)) ⌝ }
 {
-    if store.len() != Unit::STORE_LENGTH {
-        return unit.refuse(Cause::StoreLength);
-    }
     let plant = unit.plant;
     let held = unit.pool;
     let old = unit.requests;
-    if !(unit.sound() & schedule::store_holds(held, store)) {
-        return unit.refuse(Cause::Unsound);
-    }
-    let clock = unit.clock;
-    let Clock::At(t) = clock else {
-        return unit.refuse(Cause::ClockUnset);
-    };
     let id = plant.id;
     match transfer::read_to_take(&id, name, body) {
         Reading::Refused(cause) => unit.refuse(cause),
@@ -84,5 +76,16 @@ pub fn take_file(unit: Unit, name: &[u8], body: &[u8], store: &mut [u8]) -> Done
             );
             filed(unit, pool, take_requests(t, old, summary))
         }
+    }
+}
+
+// A file, by its name and body.
+pub fn take_file(unit: Unit, name: &[u8], body: &[u8], store: &mut [u8]) -> Done
+    ensures answer { λ r. ⌜ r ≡ takeOf unit (now (store .entry)) (now (name .entry)) (now (body .entry)) ⌝ }
+    ensures kept { λ _. ⌜ now (store .exit) ≡ storeAfterTake unit (now (store .entry)) (now (name .entry)) (now (body .entry)) ⌝ }
+{
+    match crate::ready::check(unit, store) {
+        Ready::Refused(cause) => unit.refuse(cause),
+        Ready::At(t) => take_checked(unit, t, name, body, store),
     }
 }
