@@ -1,3 +1,4 @@
 pub mod Samples
 pub mod Edges
+pub mod Responses
 pub mod Years
