@@ -8,6 +8,7 @@ use calls::Call;
 use plant::GivenSettings;
 use rules::Answer;
 use script::Ask;
+use script::Taken;
 use script_fields::Field;
 use unit::Unit;
 
@@ -65,8 +66,22 @@ fn install_line(was: Progress, line: &[u8], given: GivenSettings, out: &mut [u8]
     install(was, &id[..id_end], &mac[..mac_end], given, out)
 }
 
-// A call that is lent bytes: name and body of a file, boundary and bytes of a response.
-fn lent_line(was: Progress, call: Call, line: &[u8], store: &mut [u8], out: &mut [u8]) -> Progress {
+// The call that takes it.
+fn call_of(taken: Taken) -> Call {
+    match taken {
+        Taken::File => Call::File,
+        Taken::Response => Call::Response,
+    }
+}
+
+// A file's name and body, or a response's boundary and bytes. One function reads both: its two buffers are the largest part of the stack.
+fn take_line(
+    was: Progress,
+    taken: Taken,
+    line: &[u8],
+    store: &mut [u8],
+    out: &mut [u8],
+) -> Progress {
     let mut label = io::large_buffer();
     let mut bytes = io::large_buffer();
     let Field::Length(long) = script_fields::bytes_of(script_words::word(line, 1), &mut label)
@@ -81,7 +96,7 @@ fn lent_line(was: Progress, call: Call, line: &[u8], store: &mut [u8], out: &mut
         let bytes_end = most_of(wide, &bytes);
         step(
             was,
-            call,
+            call_of(taken),
             &label[..label_end],
             &bytes[..bytes_end],
             store,
@@ -137,8 +152,7 @@ pub(crate) fn answer(was: Progress, line: &[u8], store: &mut [u8], out: &mut [u8
         Ask::Byte(index, value) => stores::spoil(was, index, value, store, out),
         Ask::Tick(t) => plain_step(was, Call::Tick(t), store, out),
         Ask::Lost => plain_step(was, Call::ClockLost, store, out),
-        Ask::Take => lent_line(was, Call::File, line, store, out),
-        Ask::Response => lent_line(was, Call::Response, line, store, out),
+        Ask::Take(taken) => take_line(was, taken, line, store, out),
         Ask::Failure(kind, status) => plain_step(was, Call::Failure(kind, status), store, out),
         Ask::Ceiling(slot) => plain_step(was, Call::Ceiling(slot), store, out),
         Ask::Due => plain_step(was, Call::Due, store, out),

@@ -9,6 +9,7 @@ use Rattle.script_words.specs.Words.{wordAt, wordCount}
 use Rattle.script_words.specs.Number.{numberOf}
 use Rattle.script_words.specs.declared.number.Number.{Number}
 use Rattle.script.specs.declared.ask.Ask.{Ask}
+use Rattle.script.specs.declared.ask.Taken.{Taken}
 
 -- ---- the first words, and the kinds of a failure
 
@@ -123,8 +124,8 @@ askTwo call first =
 unfoldable pub askThree : List ℕ → List ℕ → List ℕ → Ask
 askThree call first second =
     cond (sameBytes call storeWord) (storeAsk (numberOf first) (numberOf second))
-    (cond (sameBytes call takeWord) Ask.Take
-    (cond (sameBytes call responseWord) Ask.Response
+    (cond (sameBytes call takeWord) (Ask.Take Taken.File)
+    (cond (sameBytes call responseWord) (Ask.Take Taken.Response)
     (cond (sameBytes call failureWord) (failureAsk first (numberOf second))
     (cond (sameBytes call byteWord) (byteAsk (numberOf first) (numberOf second)) Ask.Unknown))))
 
