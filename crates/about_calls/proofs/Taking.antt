@@ -177,9 +177,11 @@ module _ (p : Plant) (valid : validPlant p ≡ true) (n : ℕ) (s : State) (M : 
           (machine.take-length (w p valid n) M o e) (refl, h)
 
   -- the unit's plant is the machine's, and reads the same
-  same-plant : (read : List ℕ → Outcome) → Carries (p .id) (read (p .id)) → Sim p n (unit.takenStep (read (u .plant .id)) s) (takeStep (w p valid n) (read (p .id)) M)
+  same-plant : (read : List ℕ → Outcome) → Carries (p .id) (read (p .id))
+      → Sim p n (unit.takenStep (read (u .plant .id)) s) (takeStep (w p valid n) (read (p .id)) M)
   same-plant read from =
-      subst (λ (q : Plant). Sim p n (unit.takenStep (read (q .id)) s) (takeStep (w p valid n) (read (p .id)) M)) (sym (h .plant)) (taken-step (read (p .id)) from)
+      subst (λ (q : Plant). Sim p n (unit.takenStep (read (q .id)) s) (takeStep (w p valid n) (read (p .id)) M)) (sym (h .plant))
+      (taken-step (read (p .id)) from)
 
   pub take-step : (name body : List ℕ) → Sim p n (step (fileTaken name body) s) (machineStep (w p valid n) (fileTaken name body) M)
   unfolding step machineStep
