@@ -17,7 +17,7 @@ pub(crate) const CONTENT_LENGTH: [u8; SIZE_FROM] = *b"Content-Length: ";
 
 pub(crate) const CONTENT_DISPOSITION: [u8; 21] = *b"Content-Disposition: ";
 
-// What the lines so far say of one that begins so: no line did, one that stands from `at` to `end`, or two.
+// What the lines so far say of one that begins so: no line did, one that stands from `at` to `end`, or more than one.
 pub enum Mark {
     Never,
     Once { at: usize, end: usize },

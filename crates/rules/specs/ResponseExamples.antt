@@ -71,7 +71,7 @@ carried name lines file = carries name file (parseResponse edge (between edge li
 caused : List ℕ → List ℕ → ℕ
 caused lines file = judged (responseRows (plantX 5) edge (between edge lines file []))
 
--- ---- a small response, of the file `1` and the name `n`, and one of an update
+-- ---- a small response, of the file `1` and the name `n`, one of an update, and the paper's
 
 abbrev one : List ℕ
 one = 49 ∷ []
@@ -96,6 +96,29 @@ body = update 30 100 0 5
 abbrev digits : List ℕ
 digits = toAscii (decimal 3 (length body))
 
+-- figure 4.3 of 002, whose text 000 has: `BOUNDARY`, a name, and a file of 19,681 bytes
+abbrev paperEdge : List ℕ
+paperEdge = 66 ∷ 79 ∷ 85 ∷ 78 ∷ 68 ∷ 65 ∷ 82 ∷ 89 ∷ []
+
+abbrev paperName : List ℕ
+paperName =
+    50 ∷ 48 ∷ 49 ∷ 95 ∷ 57 ∷ 57 ∷ 57 ∷ 48 ∷ 95 ∷ 48 ∷ 50 ∷ 48 ∷ 48 ∷ 48 ∷ 48 ∷ 48 ∷ 48 ∷ 48 ∷ 50 ∷ 48 ∷ 48 ∷ 48 ∷ 48 ∷ 48 ∷ 48
+    ∷ 50 ∷ 48 ∷ 48 ∷ 48 ∷ 48 ∷ 49 ∷ 48 ∷ 48 ∷ 48 ∷ 51 ∷ 95 ∷ 50 ∷ 48 ∷ 49 ∷ 56 ∷ 48 ∷ 49 ∷ 50 ∷ 49 ∷ 49 ∷ 55 ∷ 48 ∷ 48 ∷ 49 ∷ 49
+    ∷ 46 ∷ 100 ∷ 97 ∷ 116 ∷ 97
+    ∷ []
+
+-- `19681`, `Content-Type: application/octet-stream` and `attachment; `
+abbrev paperLines : List ℕ
+paperLines =
+    sized (49 ∷ 57 ∷ 54 ∷ 56 ∷ 49 ∷ [])
+    ++ (67 ∷ 111 ∷ 110 ∷ 116 ∷ 101 ∷ 110 ∷ 116 ∷ 45 ∷ 84 ∷ 121 ∷ 112 ∷ 101 ∷ 58 ∷ 32
+    ∷ 97 ∷ 112 ∷ 112 ∷ 108 ∷ 105 ∷ 99 ∷ 97 ∷ 116 ∷ 105 ∷ 111 ∷ 110 ∷ 47 ∷ 111 ∷ 99 ∷ 116 ∷ 101 ∷ 116 ∷ 45 ∷ 115 ∷ 116 ∷ 114 ∷ 101 ∷ 97 ∷ 109
+    ∷ (end
+    ++ disposed (97 ∷ 116 ∷ 116 ∷ 97 ∷ 99 ∷ 104 ∷ 109 ∷ 101 ∷ 110 ∷ 116 ∷ 59 ∷ 32 ∷ naming paperName)))
+
+abbrev paperFile : List ℕ
+paperFile = replicate 19681 0
+
 -- so many letters
 abbrev letters : ℕ → List ℕ
 letters k = replicate k 97
@@ -106,6 +129,8 @@ responseTable =
     ∷ line 0 (caused (typed ++ both digits (updateName 5)) body) 0
     ∷ line 0 (judged (responseRows (plantX 5) edge (between edge (both digits (updateName 5)) body end))) 0  -- one more 0D 0A
     ∷ line 8 (judged (responseRows (plantX 4) edge (between edge (both digits (updateName 5)) body []))) 8
+    ∷ line 0 (length (between paperEdge paperLines paperFile [])) 19871
+    ∷ line 0 (carries paperName paperFile (parseResponse paperEdge (between paperEdge paperLines paperFile []))) 1
     ∷ line 0 (carried n (disposed (naming n) ++ (typed ++ sized one)) one) 1  -- the lines in another order
     ∷ line 0 (carried n (both (57 ∷ []) n) closed) 1  -- the closing boundary in the file
     ∷ line 0 (carried n (both zeros n) []) 1  -- 000000, and no byte
