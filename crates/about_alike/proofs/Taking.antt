@@ -33,7 +33,7 @@ use Rattle.unit.specs.declared.Clock.{Clock}
 use Rattle.unit.specs.declared.Clock.the-variants.{Unset, At}
 use Rattle.about_calls.proofs.UnitLaws as unit
 use Rattle.about_calls.proofs.Asks.{asks-facts, facts-asks}
-use Rattle.about_calls.proofs.Taking.{file-asks, Carries, file-carries, response-carries}
+use Rattle.about_calls.proofs.Taking.{file-asks, Carries, from-file, from-response}
 use Rattle.about_alike.proofs.Outcomes.{Beside, Good, unitOf, made, made-sound, made-full, made-lent, Outcome, same-state}
 
 clock-low : (c : Clock) → soundClock (clockOf c) ≡ true → clockTime c < endOfTime
@@ -150,9 +150,9 @@ module _ (r : Beside) (v : View) (good : Good r) (plain : Plain v) where
   pub take-outcome : (name body : List ℕ) → Outcome (fileTaken name body) r v
   unfolding step
   take-outcome name body =
-      taken-outcome (fileTaken name body) (takeFile (r .plant .id) name body) (file-carries (r .plant .id) name body) (λ st. refl)
+      taken-outcome (fileTaken name body) (takeFile (r .plant .id) name body) (from-file (r .plant .id) name body) (λ st. refl)
 
   pub response-outcome : (boundary bytes : List ℕ) → Outcome (responseTaken boundary bytes) r v
   unfolding step
   response-outcome boundary bytes =
-      taken-outcome (responseTaken boundary bytes) (takeResponse (r .plant .id) boundary bytes) (response-carries (r .plant .id) boundary bytes) (λ st. refl)
+      taken-outcome (responseTaken boundary bytes) (takeResponse (r .plant .id) boundary bytes) (from-response (r .plant .id) boundary bytes) (λ st. refl)

@@ -28,9 +28,10 @@ use Rattle.unit.specs.declared.Clock.{Clock}
 use Rattle.taking.specs.Taken.{outcomeRows, outcomeTaken, storeTaken, responseOf}
 use Rattle.calls.specs.Step.{State}
 use Rattle.about_calls.specs.Refusals.{callRows}
-use Rattle.about_calls.specs.Responses.{ResponseAsFile, ResponseCounts, BrokenRefused, AcceptsResponse, ResponseUntouched}
+use Rattle.about_calls.specs.Responses.{ResponseAsFile, ResponseCounts, BrokenCounts, BrokenRefused, AcceptsResponse, ResponseUntouched}
 use Rattle.about_calls.proofs.Acceptance.{accepts-lawful}
 use Rattle.about_calls.proofs.Full.{answerOf}
+use Rattle.about_calls.proofs.MachineLaws.{take-outcome}
 use Rattle.about_calls.proofs.Refusals.{taken-answer, file-refuses}
 use Rattle.about_calls.proofs.Sentences.{outcome-untouched}
 
@@ -99,6 +100,12 @@ module _ (u : Unit) (store : List ℕ) (t : ℕ) (boundary bytes : List ℕ) (go
       let same = ap (λ (d : Done). d .answer) (response-as-file u store boundary bytes (q .0) (q .1) c .0) in
       let low = file-refuses u store (q .0) (q .1) Cause.Response .0 (sym same ∙ x) in
       absurd (false≢true (sym (no-row (q .0) (q .1) (record { unit = u; store = store })) ∙ low .holds))
+
+pub broken-counts : BrokenCounts
+unfolding machineStep takeResponse
+broken-counts w M t boundary bytes long set n =
+    ap (λ (q : Option (List ℕ × List ℕ)). takeStep w (takeParsed (w .plant) q) M) (broken-exactly boundary bytes .1 n)
+    ∙ take-outcome w M (refuse Cause.Response) (eq-eqb (w .storeLength) storeLength long) t set
 
 pub broken-refused : BrokenRefused
 broken-refused u store t boundary bytes good long lent clock = (

@@ -81,11 +81,11 @@ file-asks s t low body f q k a = go (f .name .format) (k .records .form) (k .rec
 abbrev pub Carries : List ℕ → Outcome → Type 0
 Carries plant o = (f : File) → o ≡ file f → TakenBy plant f
 
-pub file-carries : (plant name body : List ℕ) → Carries plant (takeFile plant name body)
-file-carries plant name body f e = record { name = name; body = body; read = e }
+pub from-file : (plant name body : List ℕ) → Carries plant (takeFile plant name body)
+from-file plant name body f e = record { name = name; body = body; read = e }
 
-pub response-carries : (plant boundary bytes : List ℕ) → Carries plant (takeResponse plant boundary bytes)
-response-carries plant boundary bytes f e =
+pub from-response : (plant boundary bytes : List ℕ) → Carries plant (takeResponse plant boundary bytes)
+from-response plant boundary bytes f e =
     let out = response-taken plant boundary bytes f e in
     record { name = out .name; body = out .body; read = out .taken }
 
@@ -185,8 +185,8 @@ module _ (p : Plant) (valid : validPlant p ≡ true) (n : ℕ) (s : State) (M : 
 
   pub take-step : (name body : List ℕ) → Sim p n (step (fileTaken name body) s) (machineStep (w p valid n) (fileTaken name body) M)
   unfolding step machineStep
-  take-step name body = same-plant (λ x. takeFile x name body) (file-carries (p .id) name body)
+  take-step name body = same-plant (λ x. takeFile x name body) (from-file (p .id) name body)
 
   pub response-step : (boundary bytes : List ℕ) → Sim p n (step (responseTaken boundary bytes) s) (machineStep (w p valid n) (responseTaken boundary bytes) M)
   unfolding step machineStep
-  response-step boundary bytes = same-plant (λ x. takeResponse x boundary bytes) (response-carries (p .id) boundary bytes)
+  response-step boundary bytes = same-plant (λ x. takeResponse x boundary bytes) (from-response (p .id) boundary bytes)

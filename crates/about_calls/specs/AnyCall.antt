@@ -21,7 +21,7 @@ unitWith u store = record { unit = u; store = store }
 abbrev pub StepSays : Type 0
 StepSays =
     ((κs : _) (a : _) → calls-step.Asked κs a)
-    × ((κs : _) (u : Unit) (call : Call) (name body store : _) (r : Stepped) (w : Lasts stepping.ended κs (u, (call, (name, (body, (store, tt))))))
-    → let e = atExit stepping.ended κs (u, (call, (name, (body, (store, tt))))) w in
-    calls-step.Learnt κs (u, (call, (name, (body, (store, tt))))) r e
-    → (replyOf (r .reply), unitWith (r .unit) (now (e .1 .1 .1 .1 .0))) ≡ step (callOf call (now name) (now body)) (unitWith u (now store)))
+    × ((κs : _) (u : Unit) (call : Call) (label bytes store : _) (r : Stepped) (w : Lasts stepping.ended κs (u, (call, (label, (bytes, (store, tt))))))
+    → let e = atExit stepping.ended κs (u, (call, (label, (bytes, (store, tt))))) w in
+    calls-step.Learnt κs (u, (call, (label, (bytes, (store, tt))))) r e
+    → (replyOf (r .reply), unitWith (r .unit) (now (e .1 .1 .1 .1 .0))) ≡ step (callOf call (now label) (now bytes)) (unitWith u (now store)))

@@ -11,6 +11,7 @@ use Rattle.rules.specs.Body.{encodeBody, isSchedule}
 use Rattle.rules.specs.File.{File, file, lawful, recordsIn}
 use Rattle.rules.specs.Response.{Response, takeResponse}
 use Rattle.rules.specs.Store.{blockCount, storeLength, soundStore}
+use Rattle.rules.specs.Causes.{refused}
 use Rattle.rules.specs.Machine.{Machine, Told, fileTaken, responseTaken, anyRecord, step as machineStep}
 use Rattle.rules.specs.declared.Answer.{Answer}
 use Rattle.rules.specs.declared.Cause.{Cause}
@@ -36,6 +37,15 @@ ResponseCounts =
     (w : Told) (M : Machine) (boundary bytes name body : List ℕ)
     → Carried boundary bytes name body
     → machineStep w (responseTaken boundary bytes) M ≡ machineStep w (fileTaken name body) M
+
+-- '.. by the machine as well': where its store has the length and its clock is set
+abbrev pub BrokenCounts : Type 0
+BrokenCounts =
+    (w : Told) (M : Machine) (t : ℕ) (boundary bytes : List ℕ)
+    → w .storeLength ≡ storeLength
+    → M .clock ≡ some t
+    → ((r : Response) → ResponseBytes boundary bytes r → ⊥)
+    → machineStep w (responseTaken boundary bytes) M ≡ (refused 17, M)
 
 -- 'A response that breaks this form is refused with 17', and no other: on a sound unit with a sound store and a set clock 17 is the answer exactly where no
 -- lawful response has these bytes. The order, on every unit, is that of `WholeRefuses`

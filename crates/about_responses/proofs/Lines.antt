@@ -1,4 +1,4 @@
--- Lines, and headers up to the first empty line, are read exactly.
+-- A line is read exactly.
 use Prim.Native.Nat.{ℕ}
 use mathlib.Core.Path.{_≡_, _∙_, refl, ap, ap₂, subst}
 use mathlib.Core.Bool.{Bool, true, false, cond, not, false≢true, and-false}

@@ -35,7 +35,7 @@ commandReplied a = record { unit = a .unit; reply = Reply.Command (a .answer) }
 abbrev pub freeReplied : FreeAsked → Stepped
 freeReplied a = record { unit = a .unit; reply = Reply.Blocks (a .answer) }
 
--- each call is answered as its own method answers; only a file looks at what is lent, as name and body, and a response, as boundary and bytes
+-- each call is answered as its own method answers; label and bytes are a file's name and body, or a response's boundary and bytes
 abbrev pub steppedOf : Unit → Call → List ℕ → List ℕ → List ℕ → Stepped
 steppedOf u (Call.Tick t) label bytes store = answered (tickOf u store t)
 steppedOf u Call.ClockLost label bytes store = answered (lostOf u)

@@ -99,7 +99,7 @@ fn free_replied(asked: FreeAsked) -> Stepped
     }
 }
 
-// A call, whichever it is. Only a file looks at what is lent, as its name and body, and a response, as its boundary and bytes.
+// A call, whichever it is. `label` and `bytes` are looked at only by a file, as its name and body, and by a response, as its boundary and bytes.
 pub fn step(unit: Unit, call: Call, label: &[u8], bytes: &[u8], store: &mut [u8]) -> Stepped
     ensures answer { λ r. ⌜ r ≡ steppedOf unit call (now (label .entry)) (now (bytes .entry)) (now (store .entry)) ⌝ }
     ensures kept { λ _. ⌜ now (store .exit) ≡ storeOf unit call (now (label .entry)) (now (bytes .entry)) (now (store .entry)) ⌝ }

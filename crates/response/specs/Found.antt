@@ -1,10 +1,11 @@
 -- What the code's answers say: places in the caller's bytes, and at the end those of the name and the file that a response carries.
 use Prim.Native.Nat.{ℕ, _+_, _-_, _≤_}
 use mathlib.Core.Path.{_≡_}
-use mathlib.Core.Bool.{Bool, true, false}
+use mathlib.Core.Bool.{Bool, true, false, _&&_}
 use mathlib.Core.List.{List}
 use mathlib.Core.Option.{Option, none, some}
 use lib.ListN.{length, drop}
+use lib.Dec.{leb}
 use Rattle.rules.specs.Digits.{part}
 use Rattle.rules.specs.Response.{lawfulBoundary, begins, opening, lineOf, behind, parseResponse}
 use Rattle.response.specs.declared.lines.Line.{Line}
@@ -63,3 +64,16 @@ pub record FoundAt (b s : List ℕ) (nameAt nameEnd fileAt fileEnd : ℕ) : Type
 abbrev pub FoundIn : List ℕ → List ℕ → Places → Type 0
 FoundIn b s (Found nameAt nameEnd fileAt fileEnd) = FoundAt b s nameAt nameEnd fileAt fileEnd
 FoundIn b s Broken = parseResponse b s ≡ none
+
+-- ---- in the words of `find`'s contract
+
+-- the name and the file at these places
+abbrev pub carriedAt : List ℕ → Places → Option (List ℕ × List ℕ)
+carriedAt s (Found nameAt nameEnd fileAt fileEnd) = some (part s nameAt (nameEnd - nameAt), part s fileAt (fileEnd - fileAt))
+carriedAt s Broken = none
+
+-- whether each begins at or before its end, and ends in s
+abbrev pub within : List ℕ → Places → Bool
+within s (Found nameAt nameEnd fileAt fileEnd) =
+    leb nameAt nameEnd && leb nameEnd (length s) && leb fileAt fileEnd && leb fileEnd (length s)
+within s Broken = true

@@ -13,12 +13,12 @@ pub(crate) const FILE_NAME: [u8; 9] = *b"filename=";
 // How many digits a length has at most.
 const MOST_DIGITS: usize = 6;
 
-pub enum Size {
+pub(crate) enum Size {
     Bytes(usize),
     NoSize,
 }
 
-pub enum Name {
+pub(crate) enum Name {
     From(usize),
     NoName,
 }

@@ -4,7 +4,10 @@ mod fields;
 mod headers;
 mod lines;
 
-ghost use Rattle.response.specs.Found.{Opened, FoundIn};
+ghost use mathlib.Core.Path.{_≡_};
+ghost use mathlib.Core.Bool.{true};
+ghost use Rattle.rules.specs.Response.{parseResponse};
+ghost use Rattle.response.specs.Found.{Opened, FoundIn, carriedAt, within};
 use crate::fields::Name;
 use crate::fields::Size;
 use crate::headers::Headers;
@@ -59,7 +62,8 @@ fn carried(boundary: &[u8], s: &[u8]) -> Places
 
 // Where the name and the file stand in a response between that boundary.
 pub fn find(boundary: &[u8], s: &[u8]) -> Places
-    ensures { λ r. ⌜ FoundIn (now (boundary .entry)) (now (s .entry)) r ⌝ }
+    ensures carried { λ r. ⌜ carriedAt (now (s .entry)) r ≡ parseResponse (now (boundary .entry)) (now (s .entry)) ⌝ }
+    ensures inside { λ r. ⌜ within (now (s .entry)) r ≡ true ⌝ }
 {
     if !edges::lawful_boundary(boundary) {
         return Places::Broken;

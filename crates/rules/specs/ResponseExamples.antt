@@ -30,9 +30,16 @@ end = 13 ∷ 10 ∷ []
 abbrev dashes : List ℕ
 dashes = 45 ∷ 45 ∷ []
 
+-- `Content-Length`, and `content-length: ` as a line
+abbrev lengthWord : List ℕ
+lengthWord = 67 ∷ 111 ∷ 110 ∷ 116 ∷ 101 ∷ 110 ∷ 116 ∷ 45 ∷ 76 ∷ 101 ∷ 110 ∷ 103 ∷ 116 ∷ 104 ∷ []
+
+abbrev lowerLine : List ℕ
+lowerLine = 99 ∷ 111 ∷ 110 ∷ 116 ∷ 101 ∷ 110 ∷ 116 ∷ 45 ∷ 108 ∷ 101 ∷ 110 ∷ 103 ∷ 116 ∷ 104 ∷ 58 ∷ 32 ∷ end
+
 -- `Content-Length: ` and these digits, as a line
 abbrev sized : List ℕ → List ℕ
-sized digits = 67 ∷ 111 ∷ 110 ∷ 116 ∷ 101 ∷ 110 ∷ 116 ∷ 45 ∷ 76 ∷ 101 ∷ 110 ∷ 103 ∷ 116 ∷ 104 ∷ 58 ∷ 32 ∷ (digits ++ end)
+sized digits = lengthWord ++ (58 ∷ 32 ∷ (digits ++ end))
 
 -- `Content-Disposition: ` and this rest
 abbrev disposed : List ℕ → List ℕ
@@ -123,6 +130,10 @@ paperFile = replicate 19681 0
 abbrev letters : ℕ → List ℕ
 letters k = replicate k 97
 
+-- the cause with a boundary of this one byte
+edgeOf : ℕ → ℕ
+edgeOf x = judged (responseRows (plantX 5) (x ∷ []) (between (x ∷ []) (both one n) one []))
+
 pub responseTable : List Example
 responseTable =
     line 0 (carried (updateName 5) (typed ++ both digits (updateName 5)) body) 1
@@ -142,28 +153,46 @@ responseTable =
     ∷ line 7 (caused (both digits (quoted (updateName 5))) body) 7
     ∷ line 17 (caused (sized one ++ both one (quoted n)) one) 17  -- two lengths, before a name that is 7
     ∷ line 17 (caused (both one n ++ disposed (naming n)) one) 17  -- two names
-    ∷ line 17 (caused (67 ∷ 111 ∷ 110 ∷ 116 ∷ 101 ∷ 110 ∷ 116 ∷ 45 ∷ 76 ∷ 101 ∷ 110 ∷ 103 ∷ 116 ∷ 104 ∷ 58 ∷ (one ++ (end ++ disposed (naming n)))) one) 17  -- no space after the colon
-    ∷ line 0 (carried n (99 ∷ 111 ∷ 110 ∷ 116 ∷ 101 ∷ 110 ∷ 116 ∷ 45 ∷ 108 ∷ 101 ∷ 110 ∷ 103 ∷ 116 ∷ 104 ∷ 58 ∷ 32 ∷ (end ++ both one n)) one) 1  -- spelt otherwise, and skipped
+    ∷ line 17 (caused (lengthWord ++ (58 ∷ (one ++ (end ++ disposed (naming n))))) one) 17  -- no space after the colon
+    ∷ line 17 (caused (lengthWord ++ (121 ∷ 58 ∷ 32 ∷ (one ++ (end ++ disposed (naming n))))) one) 17  -- `Content-Lengthy: 1`
+    ∷ line 0 (carried n (lowerLine ++ both one n) one) 1  -- spelt otherwise, and skipped
     ∷ line 17 (caused (both (48 ∷ zeros) n) []) 17  -- seven digits
     ∷ line 17 (caused (both [] n) []) 17  -- no digit
     ∷ line 17 (caused (both (32 ∷ one) n) one) 17  -- a blank before the digit
+    ∷ line 17 (caused (both (43 ∷ one) n) one) 17  -- a sign
     ∷ line 17 (caused (both one n) (49 ∷ one)) 17  -- a longer file
     ∷ line 17 (caused (both one n) []) 17  -- a shorter one
     ∷ line 17 (judged (responseRows (plantX 5) edge (between edge (both one n) one (end ++ end)))) 17  -- two more 0D 0A
     ∷ line 17 (caused (sized one ++ disposed n) one) 17  -- no `filename=`
+    ∷ line 17 (caused (naming n ++ (end ++ (sized one ++ disposed n))) one) 17  -- `filename=` in another line
     ∷ line 17 (caused (both one n) (one ++ closed)) 17  -- the file is not sought by its end
+    ∷ line 0 (carried n (both (52 ∷ []) n) (end ++ end)) 1  -- an empty line in the file
+    ∷ line 0 (carried n (dashes ++ (edge ++ (end ++ both one n))) one) 1  -- the boundary among the headers
+    ∷ line 0 (carried n (13 ∷ (end ++ both one n)) one) 1  -- a line of a lone 0D
     ∷ line 0 (carried (13 ∷ 110 ∷ 10 ∷ 13 ∷ []) (both one (13 ∷ 110 ∷ 10 ∷ 13 ∷ [])) one) 1  -- 0D and 0A alone end no line
     ∷ line 17 (caused [] one) 17  -- no headers
     ∷ line 17 (judged (responseRows (plantX 5) [] (between [] (both one n) one []))) 17  -- no boundary
     ∷ line 17 (judged (responseRows (plantX 5) (letters 71) (between (letters 71) (both one n) one []))) 17
     ∷ line 7 (judged (responseRows (plantX 5) (letters 70) (between (letters 70) (both one n) one []))) 7
     ∷ line 17 (judged (responseRows (plantX 5) (97 ∷ 45 ∷ []) (between (97 ∷ 45 ∷ []) (both one n) one []))) 17  -- a hyphen in it
+    ∷ line 17 (edgeOf 47) 17
+    ∷ line 7 (edgeOf 48) 7
+    ∷ line 7 (edgeOf 57) 7
+    ∷ line 17 (edgeOf 58) 17
+    ∷ line 17 (edgeOf 64) 17
+    ∷ line 7 (edgeOf 65) 7
+    ∷ line 7 (edgeOf 90) 7
+    ∷ line 17 (edgeOf 91) 17
+    ∷ line 17 (edgeOf 96) 17
+    ∷ line 7 (edgeOf 97) 7
+    ∷ line 7 (edgeOf 122) 7
+    ∷ line 17 (edgeOf 123) 17
     ∷ line 17 (judged (responseRows (plantX 5) n (between edge (both one n) one []))) 17  -- another boundary
     ∷ []
 
 -- each response carries what 02 says, or is refused with the cause that it says
 pub responses-hold : allHold responseTable ≡ true
-unfolding responseTable carries carried caused judged numberBy nameFor update plantX allHold firstOf takenRows responseRows
+unfolding responseTable edgeOf carries carried caused judged numberBy nameFor update plantX allHold firstOf takenRows responseRows
     allAtMost allAscii valueFrom decimal sameBytes
     daysOfMonth firstDay exists secondsOf startSlot
     weightedSum checkDigit plantId

@@ -1,7 +1,7 @@
 -- A file or a response taken: what is answered and left. A refusal leaves unit and store as they were.
 use Prim.Native.Nat.{ℕ}
 use mathlib.Core.Bool.{true}
-use mathlib.Core.List.{List, [], _∷_}
+use mathlib.Core.List.{List, [], _∷_, _++_}
 use mathlib.Core.Option.{Option, none, some}
 use lib.Dec.{ltb}
 use Rattle.rules.specs.File.{File, Outcome, refuse, file, takeFile, recordsIn}
@@ -13,10 +13,10 @@ use Rattle.pool.specs.Blocks.{freeCount}
 use Rattle.schedule.specs.Stored.{missing}
 use Rattle.about_store.specs.Run.{runStart, runLength, putRecords}
 use Rattle.polling.specs.Requests.{requestsOf, requestsFrom}
-use Rattle.unit.specs.Rows.{lengthRow, soundRow, clockRow}
 use Rattle.unit.specs.Calls.{doneBy, clockTime}
 use Rattle.unit.specs.declared.Unit.{Unit}
 use Rattle.unit.specs.declared.Done.{Done}
+use Rattle.taking.specs.Ready.{readyRows}
 
 -- ---- what is taken, whether it came as a file or in a response
 
@@ -46,7 +46,7 @@ taken (refuse c) store u = u
 taken (file f) store u = withFile f store u
 
 abbrev pub outcomeRows : Unit → List ℕ → Outcome → List Row
-outcomeRows u store o = lengthRow store ∷ soundRow u store ∷ clockRow u ∷ outcomeRow o u ∷ []
+outcomeRows u store o = readyRows u store ++ (outcomeRow o u ∷ [])
 
 unfoldable pub outcomeTaken : Unit → List ℕ → Outcome → Done
 outcomeTaken u store o = doneBy (firstOf (outcomeRows u store o)) (taken o store u) u

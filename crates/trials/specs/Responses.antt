@@ -91,7 +91,7 @@ responses =
     ∷ tick october
     ∷ responseTaken [] []
     ∷ responseTaken [] (response (name F203 0))
-    ∷ responseTaken boundary (take 60 (response (name F203 0)))
+    ∷ responseTaken boundary (take 60 (response []))
     ∷ responseTaken boundary (response [])
     ∷ responseTaken boundary (response (34 ∷ name F203 0))
     ∷ freeBlocks

@@ -5,7 +5,9 @@ use denote.Ref.{now}
 use borrow.Author.Needs.{needs}
 use borrow.Author.Tests.{not-true, not-false}
 use Rattle.rules.specs.Response.{lawfulBoundary}
+use Rattle.response.specs.declared.Places.the-variants.{Broken}
 use Rattle.response.proofs.Whole.{bad-boundary, not-opened}
+use Rattle.response.proofs.Told.{found-says}
 use Rattle.response.proofs.find.Statement.{statement}
 use Rattle.response.proofs.find.Tie as tie
 
@@ -15,8 +17,9 @@ lawful-boundary-requires c κs = search needs
 returns : tie.Need-returns
 returns c =
     let a = c .before .before .before .before .args in
-    bad-boundary (now (a .boundary)) (now (a .s))
-    (sym (c .before .lawful-boundary .ensures) ∙ not-true (c .before .lawful-boundary .result) (c .if1 .taken))
+    found-says (now (a .boundary)) (now (a .s)) Broken
+    (bad-boundary (now (a .boundary)) (now (a .s))
+    (sym (c .before .lawful-boundary .ensures) ∙ not-true (c .before .lawful-boundary .result) (c .if1 .taken)))
 
 -- the boundary is lawful
 lawful : (c : tie.Else1) → lawfulBoundary (now (c .before .before .before .before .args .boundary)) ≡ true
@@ -28,8 +31,9 @@ opened-requires c κs = search needs
 returns-2 : tie.Need-returns-2
 returns-2 c =
     let a = c .before .before .before .before .before .before .args in
-    not-opened (now (a .boundary)) (now (a .s)) (lawful (c .before .before))
-    (sym (c .before .opened .ensures) ∙ not-true (c .before .opened .result) (c .if2 .taken))
+    found-says (now (a .boundary)) (now (a .s)) Broken
+    (not-opened (now (a .boundary)) (now (a .s)) (lawful (c .before .before))
+    (sym (c .before .opened .ensures) ∙ not-true (c .before .opened .result) (c .if2 .taken)))
 
 carried-requires : tie.Need-carried-requires
 carried-requires c κs = record {
@@ -38,7 +42,9 @@ carried-requires c κs = record {
 }
 
 returns-3 : tie.Need-returns-3
-returns-3 c = search needs
+returns-3 c =
+    let a = c .before .before .before .before .before .before .before .args in
+    found-says (now (a .boundary)) (now (a .s)) (c .carried .result) (c .carried .ensures)
 
 pub find-spec : {M : Type 1} → statement M
 find-spec =

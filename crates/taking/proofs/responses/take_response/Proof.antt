@@ -3,6 +3,7 @@ use mathlib.Core.Path.{_≡_, sym, _∙_, subst}
 use denote.Ref.{now}
 use Rattle.response.specs.Found.{FoundAt, FoundIn}
 use Rattle.response.specs.declared.Places.{Places}
+use Rattle.response.proofs.Told.{says-found}
 use Rattle.taking.specs.Ready.{Checked}
 use Rattle.taking.proofs.TakeLaws.{response-broken, response-carried}
 use Rattle.taking.proofs.ReadyLaws.{unready, checked}
@@ -44,12 +45,17 @@ start c = at-clock c .before .before .before .before .before .before .before
 ready : (c : tie.After-find) → let a = start c .args in Checked (a .unit) (now (a .store)) (at-clock c .t .given .0 .0)
 ready c = checked _ _ _ (sym (at-clock c .before .before .check .ensures) ∙ at-clock c .t .given .1)
 
+looked-at : (c : tie.After-find) → let a = start c .args in FoundIn (now (a .boundary)) (now (a .bytes)) (c .find .result)
+looked-at c =
+    let a = start c .args in
+    says-found (now (a .boundary)) (now (a .bytes)) (c .find .result) (c .find .ensures .0) (c .find .ensures .1)
+
 -- where name and file stand
 found : (c : tie.After-name-at) → let a = start (c .before .before) .args in let p = c .name-at .given .0 in
     FoundAt (now (a .boundary)) (now (a .bytes)) (p .0) (p .1 .0) (p .1 .1 .0) (p .1 .1 .1 .0)
 found c =
     let a = start (c .before .before) .args in
-    subst (λ (r : Places). FoundIn (now (a .boundary)) (now (a .bytes)) r) (c .name-at .given .1) (c .before .before .find .ensures)
+    subst (λ (r : Places). FoundIn (now (a .boundary)) (now (a .bytes)) r) (c .name-at .given .1) (looked-at (c .before .before))
 
 sub-take-checked : tie.Need-sub-take-checked
 sub-take-checked c = found (c .before) .nameLater
@@ -88,7 +94,7 @@ returns-2 : tie.Need-returns-2
 returns-2 c =
     let looked = c .before .before .before in
     let a = start looked .args in
-    let broken = subst (λ (r : Places). FoundIn (now (a .boundary)) (now (a .bytes)) r) (c .before .enum-told .given .1) (looked .find .ensures) in
+    let broken = subst (λ (r : Places). FoundIn (now (a .boundary)) (now (a .bytes)) r) (c .before .enum-told .given .1) (looked-at looked) in
     let r = response-broken _ _ _ (ready looked) _ _ broken in
     (c .refuse2 .ensures ∙ r .0, r .1)
 
