@@ -1,5 +1,5 @@
--- Demand 1: every call on every unit and store, sound or not, is answered, or refused with the lowest number whose row of 01's table applies, unit and store
--- as they were. Each row has a test of its own; the rows of a file taken are reading's, then 14, and of a response 17 before them.
+-- Demand 1: every call on every unit and store, sound or not, is answered, or refused with the first cause whose row of 01's table, or of 02, applies, unit and
+-- store as they were. Each row has a test of its own; the rows of a file taken are reading's, then 14, and of a response 17 before them.
 use Prim.Native.Nat.{ℕ}
 use mathlib.Core.Path.{_≡_}
 use mathlib.Core.Bool.{Bool, true, false, not, _&&_, _||_}
