@@ -13,12 +13,12 @@ use Rattle.rules.specs.Response.{begins, strip}
 use Rattle.laws.proofs.Tests.{isnt, no-some}
 use Rattle.laws.proofs.Bytes.{same-equal, same-self}
 
-begins-made : (p s : List ℕ) → begins p s ≡ true → s ≡ p ++ drop (length p) s
+pub begins-made : (p s : List ℕ) → begins p s ≡ true → s ≡ p ++ drop (length p) s
 unfolding begins
 begins-made p s e =
     sym (take-append-drop (length p) s) ∙ ap (λ (l : List ℕ). l ++ drop (length p) s) (same-equal (take (length p) s) p e)
 
-begins-itself : (p s : List ℕ) → begins p (p ++ s) ≡ true
+pub begins-itself : (p s : List ℕ) → begins p (p ++ s) ≡ true
 unfolding begins
 begins-itself p s = ap (λ (l : List ℕ). sameBytes l p) (take-append-seam p s) ∙ same-self p
 

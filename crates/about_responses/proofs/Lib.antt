@@ -6,3 +6,4 @@ pub mod Refusals  -- a response is refused with the lowest cause that applies; t
 pub mod Returns  -- bytes without 0D have no end of a line in them
 pub mod Sizes  -- six digits say the length of a lawful schedule's body
 pub mod Carrying  -- every lawful schedule file is carried by some response
+pub mod Fields  -- the length and the name that header lines give are those put together in them

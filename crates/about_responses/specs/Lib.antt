@@ -1,3 +1,4 @@
 pub mod Exact
 pub mod Refusals
 pub mod Carrying
+pub mod Fields
