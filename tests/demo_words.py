@@ -10,6 +10,7 @@ import in_words
 X = "12345678901234567890123455"
 INSTALL = f"install {X} 0123456789AB 4000 5500 5"
 INSTALLED = "panel 4,000 W, inverter 5,500 W, 5 ramp minutes: 100% is 30,000 parts"
+RESPONSE = f"--B\r\nContent-Disposition: attachment; filename=203_0000_{X}_20260327090000.data\r\n\r\n".encode().hex()
 STATE = "clock 827971500 floor 313 w 2 h none k 3 f 828056400 u 828014400 command 8700 held "
 TOLD = [
     "clock 2026-03-28 00:05:00, floor 2026-02, command 29%",
@@ -34,6 +35,9 @@ TABLE = [
     (f"take 202_2708_{X}_20260501120000.data -", "refused 14", "202, monthly file of 2027-08, made 2026-05-01 12:00:00, a body of 0 bytes",
      ["more than 16 months would be held"]),
     ("take xy 00", "refused 7", "a body of 1 byte", ["name breaks its form, or 301 given to be taken"]),
+    (f"response B {RESPONSE}", "refused 17", "203, update, made 2026-03-27 09:00:00, a response of 106 bytes", ["response breaks its form"]),
+    ("response B -", "refused 5", "a response of 0 bytes", ["clock unset"]),
+    ("response B 00", "refused 7", "a response of 1 byte", ["name breaks its form, or 301 given to be taken"]),
     ("due", "update", "", ["the update is due (203, segment 0000)"]),
     ("due", "fixed 2", "", ["the fixed schedule of flag 2 is due (201, segment 9992)"]),
     ("due", "nothing", "", ["nothing is due"]),

@@ -10,8 +10,9 @@ import shutil
 import sys
 
 sys.path.insert(0, str(pathlib.Path(__file__).parent))
-from schedule_files import X
+import schedule_files as files
 
+X = files.X
 INSTALL = f"install {X} 0123456789AB 4000 5500 5"
 READY = [INSTALL, "store 23808 171", "tick 827917200"]
 MOST = 65536
@@ -38,9 +39,22 @@ def long_lines():
     yield "longest-mac", [padded(f"install {X} ", MOST - 6, "A") + " 1 1 5"], ["refused 2"]
     yield "longest-segment", [INSTALL, padded("request ", MOST, "9")], ["accepted", "refused 7"]
     yield "longest-hex-segment", [INSTALL, padded("request hex:", MOST, "3")], ["accepted", "refused 7"]
+    yield "longest-response", READY + [padded("response x ", MOST - 1), padded("response x ", MOST)], ["accepted"] * 3 + ["refused 17", "unknown"]
+    yield "longest-boundary", READY + [padded("response ", MOST - 2, "2") + " -"], ["accepted"] * 3 + ["refused 17"]
     yield "longest-name", READY + [padded("take ", MOST - 2, "2") + " -"], ["accepted"] * 3 + ["refused 7"]
     yield "longest-words", [FULL[:MOST], FULL[: MOST + 1]], ["unknown", "too long"]
     yield "spaces-alone", [" " * MOST, " " * (MOST + 1)], ["unknown", "too long"]
+
+
+def whole_year():
+    """The response of document 002 with a yearly file, and the same without its last byte."""
+    response = files.response(files.name("201", "9992"), files.body(files.year_from(2026, 4))).hex()
+    held = ",".join(f"{315 + i}:{i}" for i in range(13))
+    yield f"response BOUNDARY {response[:-2]}", "refused 17"
+    yield f"response BOUNDARY {response}", "accepted"
+    yield "state", f"clock 827917200 floor 313 w none h 2 k 0 f 0 u 0 command 0 held {held}"
+    yield "ceiling 460175", "none"
+    yield "ceiling 460176", "rate 50 36"
 
 
 def large_log():
@@ -62,6 +76,8 @@ def main(folder):
     for case, lines, answers in long_lines():
         write(case, lines, answers)
         write(f"{case}-without-0A", lines, answers, end="")
+    lines, answers = zip(*whole_year())
+    write("whole-year", READY + list(lines), ["accepted"] * 3 + list(answers))
     write("large-log", *large_log())
     root = pathlib.Path(__file__).parent.parent
     for case, lines, answers in (

@@ -37,6 +37,13 @@ def update(start="202603270930", rates=(100, 40, 28), following="20260327113000"
     return record(start, list(rates), flag=2, following=following, **more)
 
 
+def response(name, file, boundary="BOUNDARY"):
+    """A file in a whole response, as figure 4.3 of document 002 has it; lines end in 0D 0A."""
+    edge = f"--{boundary}".encode()
+    head = [f"Content-Length: {len(file)}".encode(), b"Content-Type: application/octet-stream", b"Content-Disposition: attachment; filename=" + name]
+    return b"\r\n".join([edge, *head, b"", file, edge + b"--"])
+
+
 def slots(year, month):
     return 48 * (DAYS[month - 1] + (1 if month == 2 and year % 4 == 0 else 0))
 

@@ -19,7 +19,7 @@ MONTHS = 1200
 BLOCK = 1488
 LONGEST = 65536  # bytes of a line that is read
 
-# Document 01's table of causes; of 6, 7 and 9 what a call of `replay` can be refused for.
+# Document 01's table of causes and those of 02; of 6, 7 and 9 what a call of `replay` can be refused for.
 CAUSES = {
     "1": "ID length, byte or check digit",
     "2": "setting, MAC length or MAC byte out of range",
@@ -30,6 +30,7 @@ CAUSES = {
     "6 ceiling": "slot not below 1,753,200, the end of 2099",
     "6 failure": "status not 0, 100-199 or 300-599",
     "7 take": "name breaks its form, or 301 given to be taken",
+    "7 response": "name breaks its form, or 301 given to be taken",
     "7 request": "segment breaks its form",
     "8": "name's ID isn't the plant's",
     "9": "record count, digit, 203's n above 336, or length",
@@ -39,6 +40,7 @@ CAUSES = {
     "13": "record's plant ID isn't the name's",
     "14": "more than 16 months would be held",
     "15": "output longer than the lent buffer",
+    "17": "response breaks its form",
 }
 
 
@@ -94,6 +96,12 @@ def file(name):
     return f"{found[1]}, {segment(found[2])}", made
 
 
+def carried(digits):
+    """The name in a response of these hex digits: what follows the first `filename=` to its line's end."""
+    found = re.search("filename=(.*?)\r\n", text_of(f"hex:{digits}"), re.DOTALL)
+    return found[1] if found else ""
+
+
 def number(word):
     """A word as a number, None where it is none."""
     return int(word.lstrip("0") or 0) if re.fullmatch("0*[0-9]{1,20}", word) else None
@@ -103,10 +111,11 @@ def of_call(line):
     """What a call says, in words."""
     word, *rest = line.split(" ")
     numbers = [number(part) for part in rest]
-    if word == "take" and len(rest) == 2:
-        found = file(text_of(rest[0]))
+    if word in ("take", "response") and len(rest) == 2:
+        found = file(text_of(rest[0]) if word == "take" else carried(rest[1]))
         length = 0 if rest[1] == "-" else len(rest[1]) // 2
-        return (f"{found[0]}, made {found[1]}, " if found else "") + f"a body of {length:,} byte{'s' * (length != 1)}"
+        what = "a body" if word == "take" else "a response"
+        return (f"{found[0]}, made {found[1]}, " if found else "") + f"{what} of {length:,} byte{'s' * (length != 1)}"
     if word == "request" and len(rest) == 1:
         return segment(text_of(rest[0]))
     if word == "failure" and rest and rest[0] in ("update", "fixed") and numbers[1:] and numbers[1] is not None:

@@ -110,7 +110,8 @@ module _ (r : Beside) (v : View) (good : Good r) (plain : Plain v) where
           (λ st h. let s = made r v st in
           is st
           ∙ ap (λ (x : Read). unit.takenStep x s) e
-          ∙ unit.take-full s (made-full r v good plain st h) (made-sound r v good plain st h) (made-lent r v good plain st h) (ap isUnset k) f (full-view f by st h ∙ g)
+          ∙ unit.take-full s (made-full r v good plain st h) (made-sound r v good plain st h) (made-lent r v good plain st h) (ap isUnset k) f
+          (full-view f by st h ∙ g)
           ∙ ap (λ x. unit.refusal x s) (full-cause f by st))
       by-room t k f e by false g = record {
         reply = accepted;
@@ -119,14 +120,15 @@ module _ (r : Beside) (v : View) (good : Good r) (plain : Plain v) where
         good = beside-good f by;
         plain = records-plain v (recordsIn (f .body)) (run f by) plain;
         each = λ st h. let s = made r v st in
-        record {
-          stored = putRecords (v .floor) (recordsIn (f .body)) st;
-          is = is st
-              ∙ ap (λ (x : Read). unit.takenStep x s) e
-              ∙ unit.take-done s (made-full r v good plain st h) (made-sound r v good plain st h) (made-lent r v good plain st h) (ap isUnset k) f (full-view f by st h ∙ g)
-              ∙ ap (λ (x : State). (accepted, x)) (after-is f by st);
-          shows = put-shows f by g st h;
-        };
+            record {
+              stored = putRecords (v .floor) (recordsIn (f .body)) st;
+              is = is st
+                  ∙ ap (λ (x : Read). unit.takenStep x s) e
+                  ∙ unit.take-done s (made-full r v good plain st h) (made-sound r v good plain st h) (made-lent r v good plain st h) (ap isUnset k) f
+                  (full-view f by st h ∙ g)
+                  ∙ ap (λ (x : State). (accepted, x)) (after-is f by st);
+              shows = put-shows f by g st h;
+            };
       }
 
       by-reading : (t : ℕ) → r .clock ≡ At t → (x : Read) → o ≡ x → Outcome c r v

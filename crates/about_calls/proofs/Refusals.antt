@@ -120,10 +120,11 @@ unfolding firstOf callRows
 rows-same (tick t) s = rw (lent-row s) refl
 rows-same clockLost s = rw (or-false (not (isSound (s .unit)))) refl
 rows-same (fileTaken name body) s =
-    taken-same s _ (firstOf (takingRows (s .unit) name body))
+    taken-same s (takeFile (s .unit .plant .id) name body) (firstOf (takingRows (s .unit) name body))
     (λ good. outcome-first (s .unit) name body good (takeFile (s .unit .plant .id) name body) refl)
 rows-same (responseTaken boundary bytes) s =
-    taken-same s _ (firstOf (ofFile (responseTaken boundary bytes) (s .unit))) (response-first (s .unit) boundary bytes)
+    taken-same s (takeResponse (s .unit .plant .id) boundary bytes) (firstOf (ofFile (responseTaken boundary bytes) (s .unit)))
+    (response-first (s .unit) boundary bytes)
 rows-same (failure kind status) s = rw (or-false (not (isSound (s .unit)))) refl
 rows-same due s = rw (or-false (not (isSound (s .unit)))) refl
 rows-same (ceilingOf slot) s = rw (lent-row s) refl
@@ -139,7 +140,6 @@ rows-rise (fileTaken name body) s = refl
 rows-rise (responseTaken boundary bytes) s = carried-rise (parseResponse boundary bytes)
   where
     carried-rise : (q : Option (List ℕ × List ℕ)) → risingFrom 61 (row Cause.Response (formless q) ∷ carriedBy (s .unit) q) ≡ true
-    unfolding takenRows
     carried-rise none = refl
     carried-rise (some q) = refl
 rows-rise (failure kind status) s = refl

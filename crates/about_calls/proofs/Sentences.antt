@@ -1,4 +1,5 @@
 -- The latest rate, and what stays untouched.
+use Prim.Native.Nat.{ℕ}
 use mathlib.Core.Path.{_≡_, refl, sym, _∙_, subst}
 use mathlib.Core.Bool.{false≢true}
 use mathlib.Core.List.{List}

@@ -3,7 +3,6 @@ use Prim.Native.Nat.{ℕ, _≤_, _<_}
 use mathlib.Core.Path.{_≡_, refl, sym, ap, ap₂, _∙_, subst}
 use mathlib.Core.Bool.{Bool, true, false, not}
 use mathlib.Core.List.{List, [], _∷_}
-use mathlib.Core.Option.{Option, none, some}
 use native.Mathlib.Omega.{arith}
 use lib.Dec.{leb, eqb}
 use lib.ListN.{length}
@@ -12,7 +11,7 @@ use Rattle.rules.specs.Calendar.{exists, startSlot, endOfTime}
 use Rattle.rules.specs.Name.{segmentDigit}
 use Rattle.rules.specs.Body.{formOfRecord, every, Record}
 use Rattle.rules.specs.File.{File, Outcome, refuse, file, takeFile, recordDates, updateDates, inTime, recordsIn, flagOf, nextAccess}
-use Rattle.rules.specs.Response.{parseResponse, takeParsed, takeResponse}
+use Rattle.rules.specs.Response.{takeResponse}
 use Rattle.rules.specs.Store.{Requests, storeLength, blockCount}
 use Rattle.rules.specs.Machine.{Machine, heldCount, fileTaken, responseTaken, takeBy, withFile as machineWith, takeStep, step as machineStep}
 use Rattle.rules.specs.declared.Format.{Format}
@@ -25,6 +24,7 @@ use Rattle.plant.specs.Plant.{validPlant}
 use Rattle.plant.specs.declared.Plant.{Plant}
 use Rattle.about_files.proofs.Record.{form-facts}
 use Rattle.about_files.proofs.Accepted.{Taken, taken, TakenBy}
+use Rattle.about_responses.proofs.Refusals.{response-taken}
 use Rattle.pool.specs.Blocks.{freeCount}
 use Rattle.schedule.specs.Stored.{missing}
 use Rattle.about_store.specs.Agrees.{Agrees}
@@ -85,12 +85,9 @@ pub file-carries : (plant name body : List ℕ) → Carries plant (takeFile plan
 file-carries plant name body f e = record { name = name; body = body; read = e }
 
 pub response-carries : (plant boundary bytes : List ℕ) → Carries plant (takeResponse plant boundary bytes)
-unfolding takeResponse
-response-carries plant boundary bytes f = go (parseResponse boundary bytes)
-  where
-    go : (q : Option (List ℕ × List ℕ)) → takeParsed plant q ≡ file f → TakenBy plant f
-    go none e = let z : _≡_ {A = ℕ} 0 1 = cc in absurd (omega arith)
-    go (some q) e = record { name = q .0; body = q .1; read = e }
+response-carries plant boundary bytes f e =
+    let out = response-taken plant boundary bytes f e in
+    record { name = out .name; body = out .body; read = out .taken }
 
 -- ---- the step
 
@@ -180,9 +177,11 @@ module _ (p : Plant) (valid : validPlant p ≡ true) (n : ℕ) (s : State) (M : 
           (machine.take-length (w p valid n) M o e) (refl, h)
 
   -- the unit's plant is the machine's, and reads the same
-  same-plant : (read : List ℕ → Outcome) → Carries (p .id) (read (p .id)) → Sim p n (unit.takenStep (read (u .plant .id)) s) (takeStep (w p valid n) (read (p .id)) M)
+  same-plant : (read : List ℕ → Outcome) → Carries (p .id) (read (p .id))
+      → Sim p n (unit.takenStep (read (u .plant .id)) s) (takeStep (w p valid n) (read (p .id)) M)
   same-plant read from =
-      subst (λ (q : Plant). Sim p n (unit.takenStep (read (q .id)) s) (takeStep (w p valid n) (read (p .id)) M)) (sym (h .plant)) (taken-step (read (p .id)) from)
+      subst (λ (q : Plant). Sim p n (unit.takenStep (read (q .id)) s) (takeStep (w p valid n) (read (p .id)) M)) (sym (h .plant))
+      (taken-step (read (p .id)) from)
 
   pub take-step : (name body : List ℕ) → Sim p n (step (fileTaken name body) s) (machineStep (w p valid n) (fileTaken name body) M)
   unfolding step machineStep

@@ -73,8 +73,8 @@ module _ (s : State) (kept : isKept (settingsOf (s .unit .plant)) ≡ true) wher
   back : opened (shutOf u) ≡ u
   back = unit-back u kept
 
-  taken-same : (o : Outcome) → handedStep (handed (shutOf u) (outcomeTaken u (s .store) o)) (storeTaken u (s .store) o)
-      ≡ (stepDone (outcomeTaken u (s .store) o) (storeTaken u (s .store) o) .0, shutState (stepDone (outcomeTaken u (s .store) o) (storeTaken u (s .store) o) .1))
+  taken-same : (o : Outcome) → let after = stepDone (outcomeTaken u (s .store) o) (storeTaken u (s .store) o) in
+      handedStep (handed (shutOf u) (outcomeTaken u (s .store) o)) (storeTaken u (s .store) o) ≡ (after .0, shutState (after .1))
   unfolding outcomeTaken
   taken-same o = done-same (firstOf (outcomeRows u (s .store) o)) (taken o (s .store) u) u (storeTaken u (s .store) o)
 

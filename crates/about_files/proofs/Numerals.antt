@@ -3,14 +3,14 @@ use Prim.Native.Nat.{ℕ, zero, suc, _+_, _-_, _*_, _/_, _%_, _^_, _≤_, _<_}
 use mathlib.Core.Path.{_≡_, _∙_, refl, sym, ap, ap₂}
 use mathlib.Core.Bool.{Bool, true, _&&_, and-assoc}
 use mathlib.Core.List.{List, [], _∷_, _++_}
-use native.Mathlib.Nat.{pow-suc, add-zero}
+use native.Mathlib.Nat.{pow-suc}
 use native.Mathlib.Omega.{arith}
-use lib.Dec.{leb, lit<}
+use lib.Dec.{leb}
 use lib.ListN.{length}
 use borrow.Author.Tests.{le-leb, leb-true}
 use Rattle.rules.specs.Digits.{allAtMost, allDigits, digits, valueFrom, value, decimal, allAscii, toAscii, fromAscii}
 use Rattle.laws.proofs.Tests.{both, join}
-use Rattle.laws.proofs.Bytes.{length-decimal, more-digits}
+use Rattle.laws.proofs.Bytes.{length-decimal, value-small}
 use Rattle.laws.proofs.Facts.{of-digits}
 
 pub all-append : (m : ℕ) (s t : List ℕ) → allAtMost m (s ++ t) ≡ (allAtMost m s && allAtMost m t)
@@ -53,20 +53,6 @@ same-value (x ∷ s) (y ∷ t) a b l p q e =
     let r₀ : a * 10 + x ≡ b * 10 + y = r .0 in
     let x≡ : x ≡ y = omega arith in
     (omega arith, ap₂ (λ (z : ℕ) (zs : List ℕ). z ∷ zs) x≡ (r .1))
-
-value-bound : (s : List ℕ) (acc i : ℕ) → acc < 10 ^ i → allDigits s ≡ true → valueFrom acc s < 10 ^ (i + length s)
-unfolding valueFrom allAtMost
-value-bound [] acc i h p = rw add-zero h
-value-bound (x ∷ s) acc i h p =
-    let p′ = both (leb x 9) (allDigits s) p in
-    let b = value-bound s (acc * 10 + x) (i + 1) (more-digits acc x i h (leb-true x 9 (p′ .0))) (p′ .1) in
-    let e : i + suc (length s) ≡ i + 1 + length s = omega arith in
-    rw e b
-
-pub value-small : (s : List ℕ) (k : ℕ) → length s ≡ k → allDigits s ≡ true → value s < 10 ^ k
-value-small s k l p =
-    let e : 0 + length s ≡ k = omega arith in
-    rw (sym e) (value-bound s 0 0 (lit< tt) p)
 
 -- k digits are what their value is written as
 pub decimal-value : (s : List ℕ) (k : ℕ) → length s ≡ k → allDigits s ≡ true → decimal k (value s) ≡ s

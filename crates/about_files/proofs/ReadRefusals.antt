@@ -96,7 +96,7 @@ has-cause (refuse d) c = (λ e. ap causeOf e, λ e. ap refuse (Option·some-inje
 has-cause (file f) c = (λ e. ap causeOf e, λ e. absurd (Option·none-ne-some c e))
 
 module _ (rows : List Row) (o : Outcome) (first : causeOf o ≡ firstOf rows) where
-  outcome-refuses : rising rows ≡ true → (c : Cause) → (o ≡ refuse c) ↔ Lowest rows c
+  pub outcome-refuses : rising rows ≡ true → (c : Cause) → (o ≡ refuse c) ↔ Lowest rows c
   outcome-refuses rise c = Iff·trans (has-cause o c) (rw first (first-lowest rows rise c))
 
   outcome-accepts : (name body : List ℕ) → ((f : File) → o ≡ file f → Parsed name body f) → (f : File)

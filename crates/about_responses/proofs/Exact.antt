@@ -1,9 +1,8 @@
 -- Bytes are read exactly where they are those of a lawful response.
-use Prim.Native.Nat.{ℕ, _+_, _<_, _≤_}
+use Prim.Native.Nat.{ℕ, _≤_}
 use mathlib.Core.Path.{_≡_, _∙_, refl, sym, ap, ap₂, subst}
-use mathlib.Core.Bool.{Bool, true, false, cond, not, _&&_, false≢true}
-use mathlib.Core.List.{List, [], _∷_, _++_, append-assoc, append-nil}
-use mathlib.Core.Logic.{_↔_}
+use mathlib.Core.Bool.{Bool, true, false, cond, _&&_, false≢true}
+use mathlib.Core.List.{List, _++_, append-nil}
 use mathlib.Core.Option.{Option, none, some, Option·some-injective}
 use native.Mathlib.Omega.{arith}
 use borrow.Author.Tests.{eqb-true, eq-eqb, leb-true, le-leb}
@@ -122,11 +121,12 @@ module _ (b : List ℕ) (r : Response) where
   file-back h =
       let p = both (lawfulLines (r .lines) && isLength (givenLength (r .lines)) (length (r .file))) (isName (givenName (r .lines))) h in
       let q = both (lawfulLines (r .lines)) (isLength (givenLength (r .lines)) (length (r .file))) (p .0) in
-      let n : length (r .file) ≤ length (r .file ++ tail) = omega (arith, length-append (r .file) tail) in
-      ap (fileThen b (r .lines) (r .file ++ tail)) (is-length (givenLength (r .lines)) (length (r .file)) (q .1))
-      ∙ ap (λ (c : Bool). cond {A = Option Response} c (responseWith (r .lines) (take (length (r .file)) (r .file ++ tail)) (endIn b (drop (length (r .file)) (r .file ++ tail)))) none)
-      (join (le-leb (length (r .file)) (length (r .file ++ tail)) n) (p .1))
-      ∙ ap₂ (λ (f d : List ℕ). responseWith (r .lines) f (endIn b d)) (take-at (r .file) tail (length (r .file)) refl) (drop-at (r .file) tail (length (r .file)) refl)
+      let k = length (r .file) in
+      let s = r .file ++ tail in
+      let n : k ≤ length s = omega (arith, length-append (r .file) tail) in
+      ap (fileThen b (r .lines) s) (is-length (givenLength (r .lines)) k (q .1))
+      ∙ ap (λ (c : Bool). cond {A = Option Response} c (responseWith (r .lines) (take k s) (endIn b (drop k s))) none) (join (le-leb k (length s) n) (p .1))
+      ∙ ap₂ (λ (f d : List ℕ). responseWith (r .lines) f (endIn b d)) (take-at (r .file) tail k refl) (drop-at (r .file) tail k refl)
       ∙ ap (responseWith (r .lines) (r .file)) (end-back b (r .ended))
 
   lawful-lines : lawfulResponse r ≡ true → lawfulLines (r .lines) ≡ true

@@ -1,7 +1,7 @@
 -- Headers are read exactly, up to the first empty line; and a line more is the first line and the headers after it.
 use Prim.Native.Nat.{ℕ, zero, suc, _+_, _<_, _≤_}
 use mathlib.Core.Path.{_≡_, _∙_, refl, sym, ap, ap₂, subst}
-use mathlib.Core.Bool.{Bool, true, false, false≢true}
+use mathlib.Core.Bool.{true, false≢true}
 use mathlib.Core.List.{List, [], _∷_, _++_, append-assoc}
 use mathlib.Core.Option.{Option, none, some, Option·some-injective}
 use native.Mathlib.Omega.{arith}
@@ -70,7 +70,9 @@ pub headers-back : (k : ℕ) (ls : List (List ℕ)) (rest : List ℕ) → length
 unfolding lawfulLines
 headers-back zero ls rest h n = absurd (omega arith)
 headers-back (suc k) [] rest h n =
-    headers-step k _ ∙ ap (λ (t : List ℕ). headersThen (headersOf k) (lineOf t)) (lines-nil (lineEnd ++ rest)) ∙ ap (headersThen (headersOf k)) (line-back [] rest pair-none)
+    headers-step k _
+    ∙ ap (λ (t : List ℕ). headersThen (headersOf k) (lineOf t)) (lines-nil (lineEnd ++ rest))
+    ∙ ap (headersThen (headersOf k)) (line-back [] rest pair-none)
 headers-back (suc k) ([] ∷ ls) rest h n = absurd (false≢true n)
 headers-back (suc k) ((x ∷ l) ∷ ls) rest h n =
     let p = both (noPair (x ∷ l)) (lawfulLines ls) n in

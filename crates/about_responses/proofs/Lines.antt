@@ -1,14 +1,13 @@
 -- Lines, and headers up to the first empty line, are read exactly.
-use Prim.Native.Nat.{ℕ, zero, suc, _+_, _<_, _≤_}
-use mathlib.Core.Path.{_≡_, _∙_, refl, sym, ap, ap₂, subst}
-use mathlib.Core.Bool.{Bool, true, false, cond, not, _&&_, false≢true, and-false}
-use mathlib.Core.List.{List, [], _∷_, _++_, append-assoc}
+use Prim.Native.Nat.{ℕ}
+use mathlib.Core.Path.{_≡_, _∙_, refl, ap, ap₂, subst}
+use mathlib.Core.Bool.{Bool, true, false, cond, not, false≢true, and-false}
+use mathlib.Core.List.{List, [], _∷_, _++_}
 use mathlib.Core.Option.{Option, none, some, Option·some-injective}
-use native.Mathlib.Omega.{arith}
-use borrow.Author.Tests.{eqb-true, eq-eqb, not-true}
+use borrow.Author.Tests.{eqb-true, not-true}
 use lib.Dec.{eqb}
-use lib.ListN.{length, drop, length-append}
-use Rattle.rules.specs.Response.{lineEnd, pairAt, noPair, notEmpty, lawfulLine, lawfulLines, linesBytes, beforeByte, lineOf, beforeLine, lineThen, headersThen, headersOf, headersIn}
+use lib.ListN.{drop}
+use Rattle.rules.specs.Response.{lineEnd, pairAt, noPair, beforeByte, lineOf}
 use Rattle.laws.proofs.Tests.{no-some, both, join}
 
 -- ---- a line

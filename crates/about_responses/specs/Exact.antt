@@ -5,7 +5,7 @@ use mathlib.Core.Path.{_≡_}
 use mathlib.Core.Bool.{true}
 use mathlib.Core.List.{List}
 use mathlib.Core.Logic.{_↔_}
-use mathlib.Core.Option.{Option, none, some}
+use mathlib.Core.Option.{none, some}
 use Rattle.rules.specs.Response.{Response, lawfulBoundary, lawfulResponse, encodeResponse, nameOf, readResponse, parseResponse}
 
 -- these bytes are the response r between that boundary

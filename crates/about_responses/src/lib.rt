@@ -1,1 +1,1 @@
-// Theorems on whole responses: their bytes are read exactly, and the lowest cause that applies refuses them. There is no code here.
+// Theorems on whole responses: they are read exactly, the lowest cause that applies refuses them, every lawful schedule has one. There is no code here.

@@ -3,14 +3,14 @@ use Prim.Native.Nat.{ℕ, zero, suc, _+_, _-_, _*_, _/_, _%_, _^_, _≤_, _<_, m
 use mathlib.Core.Path.{_≡_, _∙_, refl, sym, ap}
 use mathlib.Core.Bool.{Bool, true, false, _&&_, false≢true}
 use mathlib.Core.List.{List, [], _∷_, _++_}
-use native.Mathlib.Nat.{pow-suc, min-eq-left}
+use native.Mathlib.Nat.{pow-suc, add-zero, min-eq-left}
 use native.Mathlib.Numerals.{add-one}
 use native.Mathlib.Omega.{arith}
-use lib.Dec.{leb, eqb}
+use lib.Dec.{leb, eqb, lit<}
 use lib.ListN.{length, getD, drop, length-append, length-drop, drop-of-length-le, take}
 use lib.Seq.{drop-cons, drop-length, length-take-le, drop-append-le, take-append-le, take-all}
 use borrow.Author.Tests.{leb-true, leb-false, le-leb, eqb-true, eq-eqb}
-use Rattle.rules.specs.Digits.{part, allAtMost, allDigits, allAscii, fromAscii, decimal, sameBytes}
+use Rattle.rules.specs.Digits.{part, allAtMost, allDigits, allAscii, fromAscii, valueFrom, value, decimal, sameBytes}
 use Rattle.laws.proofs.Tests.{both, join}
 
 -- ---- places
@@ -90,3 +90,18 @@ length-decimal (suc k) n = length-append (decimal k (n / 10)) (n % 10 ∷ []) �
 -- a value of i digits, and one digit more
 pub more-digits : (v d i : ℕ) → v < 10 ^ i → d ≤ 9 → v * 10 + d < 10 ^ (i + 1)
 more-digits v d i h l = rw (add-one i, pow-suc 10 i) (omega arith)
+
+value-bound : (s : List ℕ) (acc i : ℕ) → acc < 10 ^ i → allDigits s ≡ true → valueFrom acc s < 10 ^ (i + length s)
+unfolding valueFrom allAtMost
+value-bound [] acc i h p = rw add-zero h
+value-bound (x ∷ s) acc i h p =
+    let p′ = both (leb x 9) (allDigits s) p in
+    let b = value-bound s (acc * 10 + x) (i + 1) (more-digits acc x i h (leb-true x 9 (p′ .0))) (p′ .1) in
+    let e : i + suc (length s) ≡ i + 1 + length s = omega arith in
+    rw e b
+
+-- the value of k digits
+pub value-small : (s : List ℕ) (k : ℕ) → length s ≡ k → allDigits s ≡ true → value s < 10 ^ k
+value-small s k l p =
+    let e : 0 + length s ≡ k = omega arith in
+    rw (sym e) (value-bound s 0 0 (lit< tt) p)

@@ -1,18 +1,19 @@
--- Laws of the loops over ASCII digits: their values and the number that they stand for, at i, at i + 1 and at the end.
-use Prim.Native.Nat.{ℕ, _+_, _-_, _*_, _^_, _≤_, _<_}
+-- Laws of ASCII digits: the loop over their values, and the number that four of them stand for.
+use Prim.Native.Nat.{ℕ, _+_, _-_, _≤_, _<_}
 use mathlib.Core.Path.{_≡_, refl}
-use mathlib.Core.Bool.{true, _&&_}
+use mathlib.Core.Bool.{true}
 use mathlib.Core.List.{List, map-append}
 use native.Mathlib.Numerals.{add-one}
 use native.Mathlib.Omega.{arith}
 use native.Mathlib.Nat.{pow-le-pow-right, lt-of-lt-of-le}
-use lib.Dec.{leb, lit<}
-use lib.ListN.{length, getD, set, take, drop, drop-of-length-le}
+use lib.Dec.{lit<}
+use lib.ListN.{length, getD, set, take, length-map}
 use lib.Seq.{take-suc, take-suc-set, take-all}
-use borrow.Author.Tests.{leb-true}
-use Rattle.rules.specs.Digits.{valueFrom, allAscii, fromAscii}
-use Rattle.laws.proofs.Tests.{both}
-use Rattle.laws.proofs.Bytes.{at-next}
+use borrow.Author.Tests.{le-leb}
+use Rattle.rules.specs.Digits.{value, allAscii, fromAscii}
+use Rattle.laws.proofs.Bytes.{ascii-digits, value-small}
+use Rattle.digits.specs.Decimal.{asciiOf}
+use Rattle.digits.specs.declared.Decimal.the-variants.{Number, Broken}
 
 -- ---- values
 
@@ -28,23 +29,21 @@ module _ (to ascii : List ℕ) (i : ℕ) (e : length to ≡ length ascii) (below
 
 -- ---- numbers
 
-module _ (s : List ℕ) (i : ℕ) where
-  pub number-step : (acc : ℕ) → i < length s → valueFrom acc (fromAscii (drop i s)) ≡ valueFrom (acc * 10 + (getD s i 0 - 48)) (fromAscii (drop (i + 1) s))
-  unfolding valueFrom
-  number-step acc h = rw (at-next s i h) refl
+-- at most four are a number below 10,000
+module _ (s : List ℕ) (short : length s ≤ 4) (ascii : allAscii s ≡ true) where
+  pub four-digits : value (fromAscii s) < 10000
+  four-digits = lt-of-lt-of-le (value-small (fromAscii s) (length s) (length-map s (λ x. x - 48)) (ascii-digits s ascii)) (pow-le-pow-right (lit< tt) short)
 
-  pub number-end : (acc : ℕ) → length s ≤ i → valueFrom acc (fromAscii (drop i s)) ≡ acc
-  unfolding valueFrom
-  number-end acc h = rw (drop-of-length-le s h) refl
+  number-is : asciiOf s ≡ Number (value (fromAscii s))
+  unfolding asciiOf
+  number-is = rw (le-leb (length s) 14 (omega arith), ascii) refl
 
-  -- the byte at i, and the rest
-  pub ascii-next : i < length s → allAscii (drop i s) ≡ true → (getD s i 0 ≤ 57) × (allAscii (drop (i + 1) s) ≡ true)
-  unfolding allAscii
-  ascii-next h e =
-      let x = getD s i 0 in
-      let t = both (leb 48 x && leb x 57) (allAscii (drop (i + 1) s)) (rw (at-next s i h) at e) in
-      (leb-true x 57 (both (leb 48 x) (leb x 57) (t .0) .1), t .1)
+  -- what is read of them is that number
+  pub number-read : (n : ℕ) → asciiOf s ≡ Number n → n ≡ value (fromAscii s)
+  number-read n e = let f = number-is in cc
 
--- before the fourth digit a value is below 1000
-pub four-digits : (v i : ℕ) → v < 10 ^ i → i < 4 → v < 1000
-four-digits v i h l = let l′ : i ≤ 3 = omega arith in lt-of-lt-of-le h (pow-le-pow-right (lit< tt) l′)
+  pub never-broken : asciiOf s ≡ Broken → ⊥
+  never-broken e =
+      let f = number-is in
+      let z : _≡_ {A = ℕ} 0 1 = cc in
+      omega arith

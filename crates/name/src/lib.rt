@@ -9,6 +9,7 @@ ghost use Rattle.rules.specs.Calendar.{exists};
 ghost use Rattle.rules.specs.Name.{parseName, nameShape, nameWith, anySegment};
 ghost use Rattle.name.specs.Read.{nameRead, plantDigits, fits};
 use calendar::Moment;
+use digits::Decimal;
 use rules::Format;
 
 // 'A name has 55 ASCII bytes: format, _, segment of 4 digits, _, plant ID, _, creation time YYYYMMDDhhmmss, and the five
@@ -81,13 +82,10 @@ fn number(ascii: &[u8]) -> u16
     requires { ⌜ (length (now ascii) ≤ 4) × (allAscii (now ascii) ≡ true) ⌝ }
     ensures { λ r. ⌜ r ≡ value (fromAscii (now (ascii .entry))) ⌝ }
 {
-    let mut value: u16 = 0;
-    let mut i = 0;
-    while i < ascii.len() {
-        value = value * 10 + digit(ascii[i]) as u16;
-        i += 1;
+    match digits::ascii_number(ascii) {
+        Decimal::Number(n) => n as u16,
+        Decimal::Broken => 0,
     }
-    value
 }
 
 // '201 with 999 and any digit; 202 with YYMM (20YY, MM 01-12); 203 with 0000; 301 with 8888'.

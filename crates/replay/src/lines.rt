@@ -8,6 +8,7 @@ use calls::Call;
 use plant::GivenSettings;
 use rules::Answer;
 use script::Ask;
+use script::Taken;
 use script_fields::Field;
 use unit::Unit;
 
@@ -15,14 +16,14 @@ use unit::Unit;
 fn step(
     was: Progress,
     call: Call,
-    name: &[u8],
-    body: &[u8],
+    label: &[u8],
+    bytes: &[u8],
     store: &mut [u8],
     out: &mut [u8],
 ) -> Progress {
     let unit = was.unit;
     let lent = most_of(was.lent, store);
-    let stepped = calls::step(unit, call, name, body, &mut store[..lent]);
+    let stepped = calls::step(unit, call, label, bytes, &mut store[..lent]);
     let next = stepped.unit;
     let reply = stepped.reply;
     let progress = was.with_unit(next);
@@ -65,23 +66,39 @@ fn install_line(was: Progress, line: &[u8], given: GivenSettings, out: &mut [u8]
     install(was, &id[..id_end], &mac[..mac_end], given, out)
 }
 
-fn take_line(was: Progress, line: &[u8], store: &mut [u8], out: &mut [u8]) -> Progress {
-    let mut name = io::large_buffer();
-    let mut body = io::large_buffer();
-    let Field::Length(long) = script_fields::bytes_of(script_words::word(line, 1), &mut name) else {
+// The call that takes it.
+fn call_of(taken: Taken) -> Call {
+    match taken {
+        Taken::File => Call::File,
+        Taken::Response => Call::Response,
+    }
+}
+
+// A file's name and body, or a response's boundary and bytes. One function reads both: its two buffers are the largest part of the stack.
+fn take_line(
+    was: Progress,
+    taken: Taken,
+    line: &[u8],
+    store: &mut [u8],
+    out: &mut [u8],
+) -> Progress {
+    let mut label = io::large_buffer();
+    let mut bytes = io::large_buffer();
+    let Field::Length(long) = script_fields::bytes_of(script_words::word(line, 1), &mut label)
+    else {
         return was.says(b"unknown", out);
     };
-    let Field::Length(wide) = script_fields::hex_of(script_words::word(line, 2), &mut body) else {
+    let Field::Length(wide) = script_fields::hex_of(script_words::word(line, 2), &mut bytes) else {
         return was.says(b"unknown", out);
     };
     if was.installed {
-        let name_end = most_of(long, &name);
-        let body_end = most_of(wide, &body);
+        let label_end = most_of(long, &label);
+        let bytes_end = most_of(wide, &bytes);
         step(
             was,
-            Call::File,
-            &name[..name_end],
-            &body[..body_end],
+            call_of(taken),
+            &label[..label_end],
+            &bytes[..bytes_end],
             store,
             out,
         )
@@ -135,7 +152,7 @@ pub(crate) fn answer(was: Progress, line: &[u8], store: &mut [u8], out: &mut [u8
         Ask::Byte(index, value) => stores::spoil(was, index, value, store, out),
         Ask::Tick(t) => plain_step(was, Call::Tick(t), store, out),
         Ask::Lost => plain_step(was, Call::ClockLost, store, out),
-        Ask::Take => take_line(was, line, store, out),
+        Ask::Take(taken) => take_line(was, taken, line, store, out),
         Ask::Failure(kind, status) => plain_step(was, Call::Failure(kind, status), store, out),
         Ask::Ceiling(slot) => plain_step(was, Call::Ceiling(slot), store, out),
         Ask::Due => plain_step(was, Call::Due, store, out),

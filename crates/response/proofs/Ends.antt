@@ -7,7 +7,7 @@ use mathlib.Core.Option.{Option, none, some}
 use native.Mathlib.Omega.{arith}
 use borrow.Author.Tests.{le-leb, lt-leb}
 use lib.Dec.{leb}
-use lib.ListN.{length, getD, take, drop, length-append}
+use lib.ListN.{length, getD, drop, length-append}
 use lib.Seq.{take-all, drop-drop}
 use Rattle.rules.specs.Digits.{sameBytes}
 use Rattle.rules.specs.Response.{letterOrDigit, allLetters, lawfulBoundary, lineEnd, hyphens, begins, opening, closing, endIn}

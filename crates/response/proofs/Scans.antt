@@ -64,7 +64,8 @@ module _ (s : List ℕ) (at i : ℕ) (h : at ≤ i) (k : i + 1 < length s) where
       let n : i + 1 + 1 ≡ i + 2 = omega arith in
       ap (λ (t : List ℕ). afterBytes (part s at (i - at)) (lineOf t)) (at-next s i below)
       ∙ ap (afterBytes (part s at (i - at))) (line-stops (getD s i 0) (drop (i + 1) s) f)
-      ∙ ap₂ {C = Option (List ℕ × List ℕ)} (λ (a b : List ℕ). some (a, b)) (append-nil (part s at (i - at))) (drop-drop 1 (i + 1) s ∙ ap (λ (a : ℕ). drop a s) n)
+      ∙ ap₂ {C = Option (List ℕ × List ℕ)} (λ (a b : List ℕ). some (a, b)) (append-nil (part s at (i - at)))
+      (drop-drop 1 (i + 1) s ∙ ap (λ (a : ℕ). drop a s) n)
 
 short-line : (s : List ℕ) → length s ≤ 1 → lineOf s ≡ none
 unfolding lineOf

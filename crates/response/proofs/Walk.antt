@@ -1,5 +1,5 @@
 -- Laws of the walk over the header lines: a line more, and what the marks say at the headers' end.
-use Prim.Native.Nat.{ℕ, suc, _+_, _-_, _<_, _≤_}
+use Prim.Native.Nat.{ℕ, _+_, _-_, _<_, _≤_}
 use mathlib.Core.Path.{_≡_, _∙_, refl, sym, ap, subst}
 use mathlib.Core.Bool.{Bool, true, false, cond, and-false}
 use mathlib.Core.List.{List, [], _∷_, _++_, append-assoc, append-nil}
@@ -8,11 +8,11 @@ use native.Mathlib.Omega.{arith}
 use lib.Dec.{leb}
 use lib.ListN.{length, take, drop, length-append}
 use Rattle.rules.specs.Digits.{part}
-use Rattle.rules.specs.Response.{begins, linesWith, contentLength, contentDisposition, onlyLength, onlyName, givenLength, givenName, isName, lineOf, beforeLine, headersThen, headersIn, fileThen, headersNext}
+use Rattle.rules.specs.Response.{begins, linesWith, contentLength, contentDisposition, onlyLength, onlyName, givenLength, givenName, lineOf, beforeLine, headersThen, headersIn, fileThen, headersNext}
 use Rattle.laws.proofs.Bytes.{part-length}
 use Rattle.about_responses.proofs.Headers.{headers-next}
 use Rattle.response.specs.Found.{Ended}
-use Rattle.response.specs.Marks.{markedBy, OnceAt, Marked, afterLines, Walked, bothOf, HeadersRead}
+use Rattle.response.specs.Marks.{markedBy, Marked, afterLines, Walked, bothOf, HeadersRead}
 use Rattle.response.specs.declared.headers.Mark.{Mark}
 use Rattle.response.specs.declared.headers.Mark.the-variants.{Never, Once, Twice}
 

@@ -82,7 +82,8 @@ module _ (b s : List ℕ) (sizeAt sizeEnd nameAt nameEnd next : ℕ) (o : Opened
 
   pub no-name : behind fileName nameLine ≡ none → parseResponse b s ≡ none
   no-name f =
-      parse-is ∙ ap nameAndFile (file-nameless b (h .all) (drop next s) (lengthIn (drop 16 (part s sizeAt (sizeEnd - sizeAt)))) (ap onlyName (h .names .only) ∙ f))
+      let size = lengthIn (drop 16 (part s sizeAt (sizeEnd - sizeAt))) in
+      parse-is ∙ ap nameAndFile (file-nameless b (h .all) (drop next s) size (ap onlyName (h .names .only) ∙ f))
 
   module _ (n : ℕ) (f : lengthIn (drop 16 (part s sizeAt (sizeEnd - sizeAt))) ≡ some n) where
     sized : parseResponse b s ≡ nameAndFile (fileThen b (h .all) (drop next s) (some n))
@@ -103,7 +104,8 @@ module _ (b s : List ℕ) (sizeAt sizeEnd nameAt nameEnd next : ℕ) (o : Opened
           let r = h .rest in
           let named = h .names in
           let z = part-length s nameAt (nameEnd - nameAt) (omega (arith, named .later, named .within)) in
-          let whole = file-whole b (h .all) (drop next s) n (drop k nameLine) (omega (arith, l, length-drop next s)) (ap onlyName (h .names .only) ∙ m .found) (the-end ∙ i) in
+          let there : n ≤ length (drop next s) = omega (arith, l, length-drop next s) in
+          let whole = file-whole b (h .all) (drop next s) n (drop k nameLine) there (ap onlyName (named .only) ∙ m .found) (the-end ∙ i) in
           record {
             parsed =
                 sized

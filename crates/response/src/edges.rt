@@ -1,25 +1,29 @@
 // The boundary, and the bytes that it stands in: the first line, and what closes the file.
 ghost use mathlib.Core.Path.{_≡_};
-ghost use mathlib.Core.Bool.{_&&_, _||_};
 ghost use Prim.Native.Nat.{_≤_, _+_};
 ghost use lib.ListN.{length};
-ghost use lib.Dec.{leb};
 ghost use Rattle.rules.specs.Response.{letterOrDigit, lawfulBoundary, begins, opening, closing, endIn};
 ghost use Rattle.response.specs.Found.{isEnd};
 use crate::lines::LINE_END;
+use crate::lines::LINE_END_LENGTH;
 use crate::lines::begins;
-
-const HYPHENS: [u8; 2] = *b"--";
-
-// 0D 0A and `--`.
-const EDGE: [u8; 4] = *b"\r\n--";
 
 const MOST_BOUNDARY: usize = 70;
 
-// How many bytes the first line has beside the boundary, and what closes the file.
-pub(crate) const OPENING: usize = 4;
+// Where the boundary stands in the first line, and in what closes the file.
+const OPENED_AT: usize = 2;
 
-const CLOSING: usize = 6;
+const CLOSED_AT: usize = 4;
+
+// How many bytes these two have beside the boundary.
+pub(crate) const OPENING: usize = OPENED_AT + 2;
+
+const CLOSING: usize = CLOSED_AT + 2;
+
+const HYPHENS: [u8; OPENED_AT] = *b"--";
+
+// 0D 0A and `--`.
+const EDGE: [u8; CLOSED_AT] = *b"\r\n--";
 
 fn letter_or_digit(x: u8) -> bool
     ensures { λ r. ⌜ r ≡ letterOrDigit x ⌝ }
@@ -51,7 +55,7 @@ pub(crate) fn opened(s: &[u8], b: &[u8]) -> bool
     if s.len() < n + OPENING {
         return false;
     }
-    begins(s, &HYPHENS) & begins(&s[2..], b) & begins(&s[2 + n..], &LINE_END)
+    begins(s, &HYPHENS) & begins(&s[OPENED_AT..], b) & begins(&s[OPENED_AT + n..], &LINE_END)
 }
 
 // Whether `s` begins with what closes a file.
@@ -60,7 +64,7 @@ fn closing_begins(s: &[u8], b: &[u8]) -> bool
     ensures { λ r. ⌜ r ≡ begins (closing (now (b .entry))) (now (s .entry)) ⌝ }
 {
     let n = b.len();
-    begins(s, &EDGE) & begins(&s[4..], b) & begins(&s[4 + n..], &HYPHENS)
+    begins(s, &EDGE) & begins(&s[CLOSED_AT..], b) & begins(&s[CLOSED_AT + n..], &HYPHENS)
 }
 
 // Whether `s` is what closes a file, with at most one more end of a line.
@@ -71,7 +75,7 @@ pub(crate) fn closed(s: &[u8], b: &[u8]) -> bool
     if s.len() == n {
         return closing_begins(s, b);
     }
-    if s.len() != n + LINE_END.len() {
+    if s.len() != n + LINE_END_LENGTH {
         return false;
     }
     closing_begins(s, b) & begins(&s[n..], &LINE_END)

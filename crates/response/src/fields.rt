@@ -3,15 +3,14 @@ ghost use mathlib.Core.Path.{_≡_};
 ghost use lib.ListN.{length, drop};
 ghost use Rattle.rules.specs.Response.{contentLength, lengthIn};
 ghost use Rattle.response.specs.Found.{sizeOf, NameRead};
+use crate::headers::SIZE_FROM;
 use crate::lines::begins;
 use digits::Decimal;
 
 // 'what follows the first `filename=`'
 pub(crate) const FILE_NAME: [u8; 9] = *b"filename=";
 
-// The bytes of `Content-Length: `, and how many digits may follow.
-const SIZE_FROM: usize = 16;
-
+// How many digits a length has at most.
 const MOST_DIGITS: usize = 6;
 
 pub enum Size {

@@ -1,18 +1,23 @@
-// The header lines, walked once: 'Each of Content-Length and Content-Disposition must begin exactly one header line, spelt so, before a colon and a space; other lines are skipped'.
+// The header lines, walked once: 'Each of Content-Length and Content-Disposition must begin exactly one header line, spelt so, before
+// a colon and a space; other lines are skipped'.
 ghost use mathlib.Core.Path.{_≡_};
 ghost use Prim.Native.Nat.{_≤_};
 ghost use lib.ListN.{length};
 ghost use Rattle.rules.specs.Response.{begins};
 ghost use Rattle.response.specs.Marks.{markedBy, bothOf, HeadersRead};
+use crate::lines::LINE_END_LENGTH;
 use crate::lines::Line;
 use crate::lines::begins;
 use crate::lines::line_end;
 
-pub(crate) const CONTENT_LENGTH: [u8; 16] = *b"Content-Length: ";
+// Where the digits of a length begin in its line.
+pub(crate) const SIZE_FROM: usize = 16;
+
+pub(crate) const CONTENT_LENGTH: [u8; SIZE_FROM] = *b"Content-Length: ";
 
 pub(crate) const CONTENT_DISPOSITION: [u8; 21] = *b"Content-Disposition: ";
 
-// What the lines so far say of one that begins so: no line did, one that stands from `at` to `end`, or two.
+// What the lines so far say of one that begins so: no line did, one that stands from `at` to `end`, or more than one.
 pub enum Mark {
     Never,
     Once { at: usize, end: usize },
@@ -82,11 +87,11 @@ pub(crate) fn read(s: &[u8], from: usize) -> Headers
             return Headers::Broken;
         };
         if end == place {
-            return both(size, name, end + 2);
+            return both(size, name, end + LINE_END_LENGTH);
         }
         let line = &s[place..end];
         size = marked(size, &CONTENT_LENGTH, line, place, end);
         name = marked(name, &CONTENT_DISPOSITION, line, place, end);
-        place = end + 2;
+        place = end + LINE_END_LENGTH;
     }
 }

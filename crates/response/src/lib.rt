@@ -4,7 +4,6 @@ mod fields;
 mod headers;
 mod lines;
 
-ghost use mathlib.Core.Path.{_≡_};
 ghost use Rattle.response.specs.Found.{Opened, FoundIn};
 use crate::fields::Name;
 use crate::fields::Size;

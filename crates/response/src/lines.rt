@@ -8,7 +8,9 @@ ghost use Rattle.rules.specs.Response.{begins};
 ghost use Rattle.response.specs.Found.{LineRead};
 
 // 'Lines end in bytes 0D 0A'.
-pub(crate) const LINE_END: [u8; 2] = *b"\r\n";
+pub(crate) const LINE_END_LENGTH: usize = 2;
+
+pub(crate) const LINE_END: [u8; LINE_END_LENGTH] = *b"\r\n";
 
 // The place of a line's end, or a line that has none.
 pub enum Line {

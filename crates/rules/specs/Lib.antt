@@ -17,3 +17,4 @@ pub mod Lister
 pub mod Reading
 pub mod Examples
 pub mod RowExamples
+pub mod ResponseExamples

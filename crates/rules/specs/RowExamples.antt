@@ -22,22 +22,22 @@ use Rattle.rules.specs.declared.Format.{Format}
 use Rattle.rules.specs.declared.Format.the-variants.{F203, F301}
 
 -- the first cause's number, and 0 where no row applies
-numberBy : Option Cause → ℕ
+unfoldable pub numberBy : Option Cause → ℕ
 numberBy none = 0
 numberBy (some c) = numberOf c
 
-judged : List Row → ℕ
+unfoldable pub judged : List Row → ℕ
 judged rows = numberBy (firstOf rows)
 
 -- the name of a file for a plant with this last digit
-nameFor : Format → List ℕ → ℕ → List ℕ
+unfoldable pub nameFor : Format → List ℕ → ℕ → List ℕ
 nameFor f segment last = encodeName (record { format = f; segment = segment; plant = plantX last; created = decimal 14 20260327090000 })
 
-abbrev updateName : ℕ → List ℕ
+abbrev pub updateName : ℕ → List ℕ
 updateName last = nameFor F203 (replicate 4 0) last
 
 -- an update of one rate r from this minute of 27 March 2026, 9 o'clock, on; its sum is more by d than it should be
-update : ℕ → ℕ → ℕ → ℕ → List ℕ
+unfoldable pub update : ℕ → ℕ → ℕ → ℕ → List ℕ
 update minute r d last =
     let start = decimal 12 (202603270900 + minute) in
     encodeBody

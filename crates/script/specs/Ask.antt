@@ -9,6 +9,7 @@ use Rattle.script_words.specs.Words.{wordAt, wordCount}
 use Rattle.script_words.specs.Number.{numberOf}
 use Rattle.script_words.specs.declared.number.Number.{Number}
 use Rattle.script.specs.declared.ask.Ask.{Ask}
+use Rattle.script.specs.declared.ask.Taken.{Taken}
 
 -- ---- the first words, and the kinds of a failure
 
@@ -44,6 +45,9 @@ storeWord = 115 ∷ 116 ∷ 111 ∷ 114 ∷ 101 ∷ []
 
 abbrev pub takeWord : List ℕ
 takeWord = 116 ∷ 97 ∷ 107 ∷ 101 ∷ []
+
+abbrev pub responseWord : List ℕ
+responseWord = 114 ∷ 101 ∷ 115 ∷ 112 ∷ 111 ∷ 110 ∷ 115 ∷ 101 ∷ []
 
 abbrev pub failureWord : List ℕ
 failureWord = 102 ∷ 97 ∷ 105 ∷ 108 ∷ 117 ∷ 114 ∷ 101 ∷ []
@@ -120,9 +124,10 @@ askTwo call first =
 unfoldable pub askThree : List ℕ → List ℕ → List ℕ → Ask
 askThree call first second =
     cond (sameBytes call storeWord) (storeAsk (numberOf first) (numberOf second))
-    (cond (sameBytes call takeWord) Ask.Take
+    (cond (sameBytes call takeWord) (Ask.Take Taken.File)
+    (cond (sameBytes call responseWord) (Ask.Take Taken.Response)
     (cond (sameBytes call failureWord) (failureAsk first (numberOf second))
-    (cond (sameBytes call byteWord) (byteAsk (numberOf first) (numberOf second)) Ask.Unknown)))
+    (cond (sameBytes call byteWord) (byteAsk (numberOf first) (numberOf second)) Ask.Unknown))))
 
 unfoldable pub askSix : List ℕ → List ℕ → List ℕ → List ℕ → Ask
 askSix call panel inverter minutes =

@@ -8,8 +8,14 @@ use script_words::number_of;
 use script_words::word;
 use script_words::word_count;
 
-// A call with its numbers; the words that stand for bytes are still to be read. An ID and a MAC, a NAME and a body's digits are words 1
-// and 2 of their lines, a SEGMENT is word 1.
+// What is taken: a file by its name and body, or a whole response by its boundary and bytes.
+pub enum Taken {
+    File,
+    Response,
+}
+
+// A call with its numbers; the words that stand for bytes are still to be read. An ID and a MAC, a NAME and a body's digits, a BOUNDARY and a
+// response's digits are words 1 and 2 of their lines, a SEGMENT is word 1.
 pub enum Ask {
     Nothing,
     Unknown,
@@ -18,7 +24,7 @@ pub enum Ask {
     Byte(u64, u8),
     Tick(u64),
     Lost,
-    Take,
+    Take(Taken),
     Failure(Kind, u64),
     Ceiling(u64),
     Due,
@@ -185,7 +191,10 @@ fn ask_three(call: &[u8], first: &[u8], second: &[u8]) -> Ask
         return store_ask(number_of(first), number_of(second));
     }
     if digits::same(call, b"take") {
-        return Ask::Take;
+        return Ask::Take(Taken::File);
+    }
+    if digits::same(call, b"response") {
+        return Ask::Take(Taken::Response);
     }
     if digits::same(call, b"failure") {
         return failure_ask(first, number_of(second));

@@ -2,4 +2,5 @@
 mod ask;
 
 pub use ask::Ask;
+pub use ask::Taken;
 pub use ask::ask_of;

@@ -30,7 +30,7 @@ abbrev pub given : Bool → List ℕ → Option (List ℕ)
 given digits [] = none
 given digits (x ∷ xs) = some (map (plainByte digits) (x ∷ xs))
 
--- 'ID, MAC, NAME and SEGMENT may each be `hex:` and hex digits'
+-- 'ID, MAC, NAME, BOUNDARY and SEGMENT may each be `hex:` and hex digits'
 unfoldable pub plainField : Bool → List ℕ → Option (List ℕ)
 plainField digits s = cond (marked s) (hexField (drop 4 s)) (given digits s)
 
@@ -40,7 +40,7 @@ bytesField = plainField false
 abbrev pub digitsField : List ℕ → Option (List ℕ)
 digitsField = plainField true
 
--- 'HEX the body's bytes, - for none'
+-- 'HEX the bytes of a body or a response, - for none'
 abbrev pub hexGiven : List ℕ → Option (List ℕ)
 hexGiven [] = none
 hexGiven (x ∷ xs) = hexField (x ∷ xs)

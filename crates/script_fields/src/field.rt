@@ -1,4 +1,4 @@
-// The words that stand for bytes: 'ID, MAC, NAME and SEGMENT may each be `hex:` and hex digits', and a body's digits.
+// The words that stand for bytes: 'ID, MAC, NAME, BOUNDARY and SEGMENT may each be `hex:` and hex digits', and the digits of a body or a response.
 ghost use mathlib.Core.Path.{_≡_};
 ghost use mathlib.Core.List.{map};
 ghost use Prim.Native.Nat.{_≤_};
@@ -81,8 +81,8 @@ fn either(word: &[u8], digits: bool, out: &mut [u8]) -> Field
     Field::Length(word.len())
 }
 
-// The bytes of a MAC, a NAME or a SEGMENT in the buffer's first bytes, and how many they are. A broken word, and one that stands for more
-// bytes than the buffer has, leaves the buffer as it was.
+// The bytes of a MAC, a NAME, a BOUNDARY or a SEGMENT in the buffer's first bytes, and how many they are. A broken word, and one that stands
+// for more bytes than the buffer has, leaves the buffer as it was.
 pub fn bytes_of(word: &[u8], out: &mut [u8]) -> Field
     ensures answer { λ r. ⌜ r ≡ fieldIn (length (now (out .entry))) (bytesField (now (word .entry))) ⌝ }
     ensures buffer { λ _. ⌜ now (out .exit) ≡ bufferWith (bytesField (now (word .entry))) (now (out .entry)) ⌝ }
@@ -98,7 +98,7 @@ pub fn digits_of(word: &[u8], out: &mut [u8]) -> Field
     either(word, true, out)
 }
 
-// The same for a body: its hex digits, or `-` for none.
+// The same for a body or a response: its hex digits, or `-` for none.
 pub fn hex_of(word: &[u8], out: &mut [u8]) -> Field
     ensures answer { λ r. ⌜ r ≡ fieldIn (length (now (out .entry))) (bodyField (now (word .entry))) ⌝ }
     ensures buffer { λ _. ⌜ now (out .exit) ≡ bufferWith (bodyField (now (word .entry))) (now (out .entry)) ⌝ }

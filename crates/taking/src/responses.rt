@@ -21,7 +21,13 @@ pub fn take_response(unit: Unit, boundary: &[u8], bytes: &[u8], store: &mut [u8]
                 name_end,
                 file_at,
                 file_end,
-            } => crate::take::take_checked(unit, t, &bytes[name_at..name_end], &bytes[file_at..file_end], store),
+            } => crate::take::take_checked(
+                unit,
+                t,
+                &bytes[name_at..name_end],
+                &bytes[file_at..file_end],
+                store,
+            ),
         },
     }
 }

@@ -1,85 +1,38 @@
--- `name::number` meets its contract. The loop's invariant: i digits give a value below 10 to the i, from which the rest
--- goes on; the rest is digits.
-use Prim.Native.Nat.{_≤_, _<_, _-_, _^_}
-use mathlib.Core.Path.{_≡_, _∙_, refl, sym}
-use mathlib.Core.Bool.{true}
+-- `name::number` meets its contract: four digits are a number, and it fits.
+use mathlib.Core.Path.{_≡_, _∙_, sym}
 use native.Mathlib.Omega.{arith}
-use lib.ListN.{length, drop}
 use denote.Ref.{now}
 use borrow.Author.Needs.{needs}
-use Rattle.rules.specs.Digits.{allAscii, fromAscii, valueFrom}
-use Rattle.laws.proofs.Bytes.{more-digits}
-use Rattle.name.proofs.Ascii.{number-step, number-end, ascii-next, four-digits}
+use Rattle.rules.specs.Digits.{value, fromAscii}
+use Rattle.name.proofs.Ascii.{four-digits, number-read, never-broken}
 use Rattle.name.proofs.number.Statement.{statement}
 use Rattle.name.proofs.number.Tie as tie
 
-abbrev Inv-loop : tie.InvT-loop
-Inv-loop ascii value₀ i₀ value i =
-    (i ≤ length ascii) × (value < 10 ^ i) × (allAscii (drop i ascii) ≡ true)
-    × (valueFrom 0 (fromAscii ascii) ≡ valueFrom value (fromAscii (drop i ascii)))
+ascii-number-requires : tie.Need-ascii-number-requires
+ascii-number-requires c κs = search needs
 
-abbrev μ-loop : tie.MeasureT-loop
-μ-loop ascii value₀ i₀ value i = length ascii - i
+enum-known-n : tie.Need-enum-known-n
+enum-known-n c = search needs
 
-loop-holds : tie.Need-loop-holds Inv-loop μ-loop
-loop-holds c = (omega arith, omega arith, c .before .pre .1, refl)
+read : (c : tie.After-known-told) → c .before .n .given .0 .0 ≡ value (fromAscii (now (c .before .before .before .before .before .args .ascii)))
+read c =
+    let a = c .before .before .before .before .before in
+    number-read (now (a .args .ascii)) (a .pre .0) (a .pre .1) _ (sym (c .before .before .before .ascii-number .ensures) ∙ c .before .n .given .1)
 
-mul-value : tie.Need-mul-value Inv-loop μ-loop
-mul-value c = let l = c .before .loop in omega (arith, four-digits (l .value) (l .i) (l .inv .1) (omega arith))
+cast-result : tie.Need-cast-result
+cast-result c = let a = c .before .before .before .before .before in omega (arith, read c, four-digits (now (a .args .ascii)) (a .pre .0) (a .pre .1))
 
-shared-slice-read-digit : tie.Need-shared-slice-read-digit Inv-loop μ-loop
-shared-slice-read-digit c = omega arith
+enum-told : tie.Need-enum-told
+enum-told c = search needs
 
-digit-requires : tie.Need-digit-requires Inv-loop μ-loop
-digit-requires c κs = search needs
+returns : tie.Need-returns
+returns c = read c
 
-cast-value : tie.Need-cast-value Inv-loop μ-loop
-cast-value c = omega (arith, c .digit .ensures)
-
-add-value : tie.Need-add-value Inv-loop μ-loop
-add-value c =
-    let l = c .before .before .before .loop in
-    let ascii = now (c .before .before .before .before .before .args .ascii) in
-    let digit = ascii-next ascii (l .i) (c .before .before .loop-test .taken) (l .inv .2) .0 in
-    omega (arith, c .digit .ensures, digit, four-digits (l .value) (l .i) (l .inv .1) (omega arith))
-
-add-i : tie.Need-add-i Inv-loop μ-loop
-add-i c = omega arith
-
-loop-less : tie.Need-loop-less Inv-loop μ-loop
-loop-less c = omega arith
-
-loop-again : tie.Need-loop-again Inv-loop μ-loop
-loop-again c =
-    let l = c .before .before .before .loop in
-    let ascii = now (c .before .before .before .before .before .args .ascii) in
-    let h = c .before .before .loop-test .taken in
-    let next = ascii-next ascii (l .i) h (l .inv .2) in (
-      omega arith,
-      more-digits (l .value) (c .digit .result) (l .i) (l .inv .1) (omega (arith, c .digit .ensures, next .0)),
-      next .1,
-      rw (c .digit .ensures) (l .inv .3 ∙ number-step ascii (l .i) (l .value) h),
-    )
-
-returns : tie.Need-returns Inv-loop μ-loop
-returns c =
-    let l = c .before .loop in
-    let ascii = now (c .before .before .before .args .ascii) in
-    sym (l .inv .3 ∙ number-end ascii (l .i) (l .value) (c .loop-test .left))
+returns-2 : tie.Need-returns-2
+returns-2 c =
+    let a = c .before .before .before .before in
+    absurd (never-broken (now (a .args .ascii)) (a .pre .0) (a .pre .1) (sym (c .before .before .ascii-number .ensures) ∙ c .enum-told .given .1))
 
 pub number-spec : {M : Type 1} → statement M
 number-spec =
-    tie.close
-    (tie.spec
-    Inv-loop
-    μ-loop
-    loop-holds
-    mul-value
-    shared-slice-read-digit
-    digit-requires
-    cast-value
-    add-value
-    add-i
-    loop-less
-    loop-again
-    returns)
+    tie.close (tie.spec ascii-number-requires enum-known-n cast-result enum-told returns returns-2)

@@ -1,6 +1,7 @@
 -- `response::carried` meets its contract: one law for each return.
-use Prim.Native.Nat.{_+_, _-_, _≤_}
-use mathlib.Core.Path.{_≡_, _∙_, refl, sym, ap, subst}
+use Prim.Native.Nat.{ℕ, _+_, _-_, _≤_}
+use mathlib.Core.Path.{_≡_, _∙_, sym, ap, subst}
+use mathlib.Core.List.{List}
 use mathlib.Core.Option.{some}
 use native.Mathlib.Omega.{arith}
 use denote.Ref.{now}
@@ -42,13 +43,38 @@ returns c =
     let broken = subst (λ (h : Headers). HeadersRead s (length b + 4) h) (c .enum-told .given .1) (c .before .before .read .ensures) in
     when-opened b s (c .before .before .before .before .before .pre) ∙ ap nameAndFile (broken b)
 
--- both header lines are there
-both : (c : tie.After-known-told)
-    → BothAt (now (c .before .before .before .before .before .before .args .s)) (length (now (c .before .before .before .before .before .before .args .boundary)) + 4) (c .before .size-at .given .0 .0) (c .before .size-at .given .0 .1 .0)
-    (c .before .size-at .given .0 .1 .1 .0) (c .before .size-at .given .0 .1 .1 .1 .0) (c .before .size-at .given .0 .1 .1 .1 .1 .0)
-both c =
-    subst (λ (h : Headers). HeadersRead (now (c .before .before .before .before .before .before .args .s)) (length (now (c .before .before .before .before .before .before .args .boundary)) + 4) h) (c .before .size-at .given .1)
-    (c .before .before .before .read .ensures)
+-- ---- the places from which more is known: both lines, then the length, then the name
+
+abbrev headers : tie.After-known-told2 → tie.After-known-told
+headers c = c .before .before .before .before .before
+
+abbrev size : tie.After-known-told3 → tie.After-known-told2
+size c = c .before .before .before .before .before .before
+
+abbrev boundary : tie.After-known-told → List ℕ
+boundary c = now (c .before .before .before .before .before .before .args .boundary)
+
+abbrev bytes : tie.After-known-told → List ℕ
+bytes c = now (c .before .before .before .before .before .before .args .s)
+
+abbrev size-line : tie.After-known-told → List ℕ
+size-line c = let t = c .before .size-at .given .0 in part (bytes c) (t .0) (t .1 .0 - t .0)
+
+abbrev name-line : tie.After-known-told → List ℕ
+name-line c = let t = c .before .size-at .given .0 in part (bytes c) (t .1 .1 .0) (t .1 .1 .1 .0 - t .1 .1 .0)
+
+abbrev next : tie.After-known-told → ℕ
+next c = c .before .size-at .given .0 .1 .1 .1 .1 .0
+
+-- ---- both header lines
+
+abbrev Both : tie.After-known-told → Type 0
+Both c =
+    let t = c .before .size-at .given .0 in
+    BothAt (bytes c) (length (boundary c) + 4) (t .0) (t .1 .0) (t .1 .1 .0) (t .1 .1 .1 .0) (t .1 .1 .1 .1 .0)
+
+both : (c : tie.After-known-told) → Both c
+both c = subst (λ (h : Headers). HeadersRead (bytes c) (length (boundary c) + 4) h) (c .before .size-at .given .1) (c .before .before .before .read .ensures)
 
 sub-size-in : tie.Need-sub-size-in
 sub-size-in c = both c .sizes .later
@@ -70,24 +96,23 @@ enum-told-2 c = search needs
 
 returns-2 : tie.Need-returns-2
 returns-2 c =
-    let a = c .before .before .before .before .before .before .before .before .before .before .args in
-    no-size (now (a .boundary)) (now (a .s)) _ _ _ _ _ (c .before .before .before .before .before .before .before .before .before .before .pre) (both (c .before .before .before .before))
-    (size-none _ (sym (c .before .before .size-in .ensures) ∙ c .enum-told2 .given .1))
+    let h = c .before .before .before .before in
+    no-size (boundary h) (bytes h) _ _ _ _ _ (h .before .before .before .before .before .before .pre) (both h)
+    (size-none (drop 16 (size-line h)) (sym (c .before .before .size-in .ensures) ∙ c .enum-told2 .given .1))
 
--- the length is n
-sized : (c : tie.After-known-told2)
-    → lengthIn (drop 16 (part (now (c .before .before .before .before .before .before .before .before .before .before .before .args .s)) (c .before .before .before .before .before .before .size-at .given .0 .0) (c .before .before .before .before .before .before .size-at .given .0 .1 .0 - c .before .before .before .before .before .before .size-at .given .0 .0)))
-    ≡ some (c .before .n .given .0 .0)
-sized c = size-some _ _ (sym (c .before .before .before .size-in .ensures) ∙ c .before .n .given .1)
+-- ---- the length
+
+sized : (c : tie.After-known-told2) → lengthIn (drop 16 (size-line (headers c))) ≡ some (c .before .n .given .0 .0)
+sized c = size-some (drop 16 (size-line (headers c))) (c .before .n .given .0 .0) (sym (c .before .before .before .size-in .ensures) ∙ c .before .n .given .1)
 
 sub-name-in : tie.Need-sub-name-in
-sub-name-in c = both (c .before .before .before .before .before) .names .later
+sub-name-in c = both (headers c) .names .later
 
 part-name-in-start : tie.Need-part-name-in-start
-part-name-in-start c = let d = both (c .before .before .before .before .before) .names in omega (arith, d .later, d .within)
+part-name-in-start c = let d = both (headers c) .names in omega (arith, d .later, d .within)
 
 part-name-in-end : tie.Need-part-name-in-end
-part-name-in-end c = both (c .before .before .before .before .before) .names .within
+part-name-in-end c = both (headers c) .names .within
 
 slice-aggregate-name-in : tie.Need-slice-aggregate-name-in
 slice-aggregate-name-in c = search needs
@@ -103,33 +128,27 @@ enum-told-3 c = search needs
 
 returns-3 : tie.Need-returns-3
 returns-3 c =
-    let a = c .before .before .before .before .before .before .before .before .before .before .before .before .before .before .before .before .args in
-    let t = c .before .before .before .before .before .before .before .before .before .before .before .size-at .given .0 in
-    no-name (now (a .boundary)) (now (a .s)) _ _ _ _ _ (c .before .before .before .before .before .before .before .before .before .before .before .before .before .before .before .before .pre) (both (c .before .before .before .before .before .before .before .before .before .before))
-    (subst (λ (h : Name). NameRead fileName (part (now (a .s)) (t .1 .1 .0) (t .1 .1 .1 .0 - t .1 .1 .0)) h) (c .enum-told3 .given .1) (c .before .before .name-in .ensures))
+    let h = headers (c .before .before .before .before .before) in
+    no-name (boundary h) (bytes h) _ _ _ _ _ (h .before .before .before .before .before .before .pre) (both h)
+    (subst (λ (r : Name). NameRead fileName (name-line h) r) (c .enum-told3 .given .1) (c .before .before .name-in .ensures))
 
--- the name begins k bytes on in its line
-named : (c : tie.After-known-told3)
-    → NameAt fileName
-    (part (now (c .before .before .before .before .before .before .before .before .before .before .before .before .before .before .before .before .before .args .s)) (c .before .before .before .before .before .before .before .before .before .before .before .before .size-at .given .0 .1 .1 .0) (c .before .before .before .before .before .before .before .before .before .before .before .before .size-at .given .0 .1 .1 .1 .0 - c .before .before .before .before .before .before .before .before .before .before .before .before .size-at .given .0 .1 .1 .0))
-    (c .before .k .given .0 .0)
-named c =
-    let s = now (c .before .before .before .before .before .before .before .before .before .before .before .before .before .before .before .before .before .args .s) in
-    let t = c .before .before .before .before .before .before .before .before .before .before .before .before .size-at .given .0 in
-    subst (λ (h : Name). NameRead fileName (part s (t .1 .1 .0) (t .1 .1 .1 .0 - t .1 .1 .0)) h) (c .before .k .given .1) (c .before .before .before .name-in .ensures)
+-- ---- the name, and the file
+
+named : (c : tie.After-known-told3) → NameAt fileName (name-line (headers (size c))) (c .before .k .given .0 .0)
+named c = subst (λ (r : Name). NameRead fileName (name-line (headers (size c))) r) (c .before .k .given .1) (c .before .before .before .name-in .ensures)
 
 sub-if1 : tie.Need-sub-if1
-sub-if1 c = both (c .before .before .before .before .before .before .before .before .before .before .before) .rest
+sub-if1 c = both (headers (size c)) .rest
 
 returns-4 : tie.Need-returns-4
 returns-4 c =
-    let a = c .before .before .before .before .before .before .before .before .before .before .before .before .before .before .before .before .before .before .args in
-    cut-file (now (a .boundary)) (now (a .s)) _ _ _ _ _ (c .before .before .before .before .before .before .before .before .before .before .before .before .before .before .before .before .before .before .pre) (both (c .before .before .before .before .before .before .before .before .before .before .before .before)) _ (sized (c .before .before .before .before .before .before .before)) (c .if1 .taken)
+    let n = size (c .before) in
+    let h = headers n in
+    cut-file (boundary h) (bytes h) _ _ _ _ _ (h .before .before .before .before .before .before .pre) (both h) _ (sized n) (c .if1 .taken)
 
 -- the file ends within the bytes
-fits : (c : tie.Else1)
-    → c .before .before .before .before .before .before .before .before .before .before .before .before .before .size-at .given .0 .1 .1 .1 .1 .0 + c .before .before .before .before .before .before .before .before .n .given .0 .0 ≤ length (now (c .before .before .before .before .before .before .before .before .before .before .before .before .before .before .before .before .before .before .args .s))
-fits c = omega (arith, c .if1 .left, both (c .before .before .before .before .before .before .before .before .before .before .before .before) .rest)
+fits : (c : tie.Else1) → next (headers (size (c .before))) + size (c .before) .before .n .given .0 .0 ≤ length (bytes (headers (size (c .before))))
+fits c = omega (arith, c .if1 .left, both (headers (size (c .before))) .rest)
 
 add-stop : tie.Need-add-stop
 add-stop c = search needs
@@ -148,28 +167,27 @@ closed-requires c κs = search needs
 
 returns-5 : tie.Need-returns-5
 returns-5 c =
-    let b = now (c .before .before .before .before .before .before .before .before .before .before .before .before .before .before .before .before .before .before .before .before .before .args .boundary) in
-    let s = now (c .before .before .before .before .before .before .before .before .before .before .before .before .before .before .before .before .before .before .before .before .before .args .s) in
-    let stop = c .before .before .before .before .before .before .before .before .before .before .before .before .before .before .before .before .size-at .given .0 .1 .1 .1 .1 .0 + c .before .before .before .before .before .before .before .before .before .before .before .n .given .0 .0 in
-    open-file b s _ _ _ _ _ (c .before .before .before .before .before .before .before .before .before .before .before .before .before .before .before .before .before .before .before .before .before .pre) (both (c .before .before .before .before .before .before .before .before .before .before .before .before .before .before .before)) _ (sized (c .before .before .before .before .before .before .before .before .before .before)) (c .before .closed .result)
-    (c .before .closed .ensures ∙ ap (λ x. isEnd (endIn b x)) (part-rest s stop)) (not-true (c .before .closed .result) (c .if2 .taken))
+    let n = size (c .before .before .before .before) in
+    let h = headers n in
+    let end = c .before .closed .ensures ∙ ap (λ x. isEnd (endIn (boundary h) x)) (part-rest (bytes h) (next h + n .before .n .given .0 .0)) in
+    open-file (boundary h) (bytes h) _ _ _ _ _ (h .before .before .before .before .before .before .pre) (both h) _ (sized n) (c .before .closed .result) end
+    (not-true (c .before .closed .result) (c .if2 .taken))
 
 add-t25 : tie.Need-add-t25
 add-t25 c =
-    let s = now (c .before .before .before .before .before .before .before .before .before .before .before .before .before .before .before .before .before .before .before .before .before .args .s) in
-    let t = c .before .before .before .before .before .before .before .before .before .before .before .before .before .before .before .before .size-at .given .0 in
-    let d = both (c .before .before .before .before .before .before .before .before .before .before .before .before .before .before .before) .names in
-    let l = part-length s (t .1 .1 .0) (t .1 .1 .1 .0 - t .1 .1 .0) (omega (arith, d .later, d .within)) in
-    omega (arith, l, d .later, d .within, named (c .before .before .before .before) .within, c .before .before .before .before .before .before .before .before .before .before .before .before .before .before .before .before .before .before .before .before .before .good)
+    let h = headers (size (c .before .before .before .before)) in
+    let t = h .before .size-at .given .0 in
+    let d = both h .names in
+    let l = part-length (bytes h) (t .1 .1 .0) (t .1 .1 .1 .0 - t .1 .1 .0) (omega (arith, d .later, d .within)) in
+    omega (arith, l, d .later, d .within, named (c .before .before .before .before) .within, h .before .before .before .before .before .before .good)
 
 returns-6 : tie.Need-returns-6
 returns-6 c =
-    let b = now (c .before .before .before .before .before .before .before .before .before .before .before .before .before .before .before .before .before .before .before .before .before .args .boundary) in
-    let s = now (c .before .before .before .before .before .before .before .before .before .before .before .before .before .before .before .before .before .before .before .before .before .args .s) in
-    let stop = c .before .before .before .before .before .before .before .before .before .before .before .before .before .before .before .before .size-at .given .0 .1 .1 .1 .1 .0 + c .before .before .before .before .before .before .before .before .before .before .before .n .given .0 .0 in
-    whole-file b s _ _ _ _ _ (c .before .before .before .before .before .before .before .before .before .before .before .before .before .before .before .before .before .before .before .before .before .pre) (both (c .before .before .before .before .before .before .before .before .before .before .before .before .before .before .before)) _ (sized (c .before .before .before .before .before .before .before .before .before .before)) (c .before .closed .result)
-    (c .before .closed .ensures ∙ ap (λ x. isEnd (endIn b x)) (part-rest s stop)) _ (named (c .before .before .before .before)) (c .before .before .before .if1 .left)
-    (not-false (c .before .closed .result) (c .if2 .left))
+    let n = size (c .before .before .before .before) in
+    let h = headers n in
+    let end = c .before .closed .ensures ∙ ap (λ x. isEnd (endIn (boundary h) x)) (part-rest (bytes h) (next h + n .before .n .given .0 .0)) in
+    whole-file (boundary h) (bytes h) _ _ _ _ _ (h .before .before .before .before .before .before .pre) (both h) _ (sized n) (c .before .closed .result) end _
+    (named (c .before .before .before .before)) (c .before .before .before .if1 .left) (not-false (c .before .closed .result) (c .if2 .left))
 
 pub carried-spec : {M : Type 1} → statement M
 carried-spec =

@@ -1,14 +1,13 @@
 -- `response::edges::closed` meets its contract.
-use Prim.Native.Nat.{ℕ, _+_, _≤_, _<_, _-_}
-use mathlib.Core.Path.{_≡_, _∙_, refl, sym, ap, ap₂, subst}
-use mathlib.Core.Bool.{Bool, true, false, _&&_}
+use Prim.Native.Nat.{_+_}
+use mathlib.Core.Path.{_∙_, ap, ap₂}
+use mathlib.Core.Bool.{Bool, _&&_}
 use native.Mathlib.Omega.{arith}
 use denote.Ref.{now}
-use lib.ListN.{length, take, drop}
+use lib.ListN.{length}
 use Rattle.laws.proofs.Bytes.{part-rest}
-use Rattle.rules.specs.Response.{begins, lineEnd, hyphens, opening, closing, endIn}
-use Rattle.about_responses.proofs.Begins.{too-short}
-use Rattle.response.proofs.Ends.{opened-parts, opening-length, edge, closing-parts, end-short, end-long, end-other}
+use Rattle.rules.specs.Response.{begins, lineEnd}
+use Rattle.response.proofs.Ends.{end-short, end-long, end-other}
 use borrow.Author.Needs.{needs}
 use Rattle.response.proofs.edges.closed.Statement.{statement}
 use Rattle.response.proofs.edges.closed.Tie as tie

@@ -4,7 +4,7 @@ use mathlib.Core.Path.{_≡_, _∙_, refl, sym, ap}
 use mathlib.Core.Bool.{Bool, _&&_}
 use native.Mathlib.Omega.{arith}
 use denote.Ref.{now}
-use lib.ListN.{length, drop, getD}
+use lib.ListN.{length, drop}
 use Rattle.rules.specs.Response.{allLetters}
 use Rattle.response.proofs.Ends.{letters-step, letters-end, boundary-long, boundary-is}
 use borrow.Author.Needs.{needs}

@@ -1,14 +1,14 @@
 -- `response::edges::opened` meets its contract.
-use Prim.Native.Nat.{ℕ, _+_, _≤_, _<_, _-_}
-use mathlib.Core.Path.{_≡_, _∙_, refl, sym, ap, ap₂, subst}
-use mathlib.Core.Bool.{Bool, true, false, _&&_}
+use Prim.Native.Nat.{_+_}
+use mathlib.Core.Path.{_∙_, sym, ap, ap₂}
+use mathlib.Core.Bool.{Bool, _&&_}
 use native.Mathlib.Omega.{arith}
 use denote.Ref.{now}
-use lib.ListN.{length, take, drop}
+use lib.ListN.{length}
 use Rattle.laws.proofs.Bytes.{part-rest}
-use Rattle.rules.specs.Response.{begins, lineEnd, hyphens, opening, closing, endIn}
+use Rattle.rules.specs.Response.{begins, lineEnd, opening}
 use Rattle.about_responses.proofs.Begins.{too-short}
-use Rattle.response.proofs.Ends.{opened-parts, opening-length, edge, closing-parts, end-short, end-long, end-other}
+use Rattle.response.proofs.Ends.{opened-parts, opening-length}
 use borrow.Author.Needs.{needs}
 use Rattle.response.proofs.edges.opened.Statement.{statement}
 use Rattle.response.proofs.edges.opened.Tie as tie
@@ -63,7 +63,8 @@ returns-2 c =
     let s = now (c .before .before .before .before .before .before .before .before .before .before .args .s) in
     let b = now (c .before .before .before .before .before .before .before .before .before .before .args .b) in
     ap₂ (λ (x y : Bool). x && y)
-    (ap₂ (λ (x y : Bool). x && y) (c .before .before .before .before .before .begins .ensures) (c .before .before .before .begins2 .ensures ∙ ap (begins b) (part-rest s 2)))
+    (ap₂ (λ (x y : Bool). x && y) (c .before .before .before .before .before .begins .ensures)
+    (c .before .before .before .begins2 .ensures ∙ ap (begins b) (part-rest s 2)))
     (c .begins3 .ensures ∙ ap (begins lineEnd) (part-rest s (2 + length b)))
     ∙ opened-parts b s
 

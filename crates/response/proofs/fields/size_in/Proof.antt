@@ -1,12 +1,9 @@
 -- `response::fields::size_in` meets its contract: each return has a law.
-use mathlib.Core.Path.{_≡_, _∙_, sym, ap}
+use mathlib.Core.Path.{_∙_, sym, ap}
 use denote.Ref.{now}
-use lib.ListN.{length, drop}
 use borrow.Author.Needs.{needs}
-use Rattle.rules.specs.Digits.{part}
 use Rattle.laws.proofs.Bytes.{part-rest}
 use Rattle.digits.specs.Decimal.{asciiOf}
-use Rattle.digits.specs.declared.Decimal.{Decimal}
 use Rattle.response.proofs.Sizes.{size-short, size-long, sizeBy, size-by}
 use Rattle.response.proofs.fields.size_in.Statement.{statement}
 use Rattle.response.proofs.fields.size_in.Tie as tie

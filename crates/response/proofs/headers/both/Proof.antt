@@ -29,7 +29,9 @@ returns-2 : tie.Need-returns-2
 returns-2 c = search needs
 
 returns-3 : tie.Need-returns-3
-returns-3 c = both-is (c .before .before .before .before .before .before .args .next) (c .before .before .before .before .size .given .1) (c .before .name .given .1)
+returns-3 c =
+    let size = c .before .before .before .before in
+    both-is (size .before .before .args .next) (size .size .given .1) (c .before .name .given .1)
 
 returns-4 : tie.Need-returns-4
 returns-4 c = search needs

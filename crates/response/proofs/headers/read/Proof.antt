@@ -1,6 +1,6 @@
 -- `response::headers::read` meets its contract: the lines before `place` are walked, and the marks say what they say.
-use Prim.Native.Nat.{_+_, _-_, _≤_, _<_}
-use mathlib.Core.Path.{_≡_, refl, sym, ap, subst}
+use Prim.Native.Nat.{_-_, _≤_, _<_}
+use mathlib.Core.Path.{refl, sym, subst}
 use native.Mathlib.Omega.{arith}
 use denote.Ref.{now}
 use lib.ListN.{length}
@@ -42,8 +42,8 @@ returns c =
 ended : (c : tie.After-known-told Inv-loop μ-loop)
     → Ended (now (c .before .before .before .before .before .before .args .s)) (c .before .before .before .before .loop .place) (c .before .end .given .0 .0)
 ended c =
-    let s = now (c .before .before .before .before .before .before .args .s) in
-    subst (λ (h : Line). LineRead s (c .before .before .before .before .loop .place) h) (c .before .end .given .1) (c .before .before .before .line-end .ensures)
+    let l = c .before .before .before .before in
+    subst (λ (h : Line). LineRead (now (l .before .before .args .s)) (l .loop .place) h) (c .before .end .given .1) (c .before .before .before .line-end .ensures)
 
 add-both : tie.Need-add-both Inv-loop μ-loop
 add-both c = omega (arith, ended (c .before) .within, c .before .before .before .before .before .before .before .good)
@@ -56,7 +56,7 @@ returns-2 c =
     let a = c .before .before .before .before .before .before .before .before .args in
     let l = c .before .before .before .before .before .before .loop in
     subst (λ (h : Headers). HeadersRead (now (a .s)) (a .from) h) (sym (c .both .ensures))
-    (walk-over (now (a .s)) (a .from) (l .place) (l .size) (l .name) (l .inv .1) (c .before .before .before .end .given .0 .0) (ended (c .before .before)) (c .before .if1 .taken))
+    (walk-over (now (a .s)) (a .from) (l .place) (l .size) (l .name) (l .inv .1) _ (ended (c .before .before)) (c .before .if1 .taken))
 
 sub-line : tie.Need-sub-line Inv-loop μ-loop
 sub-line c = ended (c .before) .later
@@ -80,7 +80,7 @@ marked-requires-2 : tie.Need-marked-requires-2 Inv-loop μ-loop
 marked-requires-2 c κs = search needs
 
 add-place : tie.Need-add-place Inv-loop μ-loop
-add-place c = omega (arith, ended (c .before .before .before .before .before .before) .within, c .before .before .before .before .before .before .before .before .before .before .before .before .good)
+add-place c = let e = c .before .before .before .before .before .before in omega (arith, ended e .within, e .before .before .before .before .before .before .good)
 
 loop-less : tie.Need-loop-less Inv-loop μ-loop
 loop-less c = let d = ended (c .before .before .before .before .before .before) in omega (arith, d .later, d .within)

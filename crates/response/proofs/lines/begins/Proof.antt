@@ -1,8 +1,7 @@
 -- `response::lines::begins` meets its contract.
-use mathlib.Core.Path.{_≡_, _∙_, sym}
-use native.Mathlib.Omega.{arith}
+use mathlib.Core.Path.{sym}
 use denote.Ref.{now}
-use lib.ListN.{length, take}
+use lib.ListN.{length}
 use lib.Seq.{length-take-le}
 use Rattle.rules.specs.Response.{begins}
 use Rattle.about_responses.proofs.Begins.{too-short}

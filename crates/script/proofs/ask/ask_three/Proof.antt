@@ -6,7 +6,7 @@ use mathlib.Core.List.{List}
 use borrow.Author.Needs.{needs}
 use denote.Ref.{now}
 use Rattle.rules.specs.Digits.{sameBytes}
-use Rattle.script.specs.Ask.{storeWord, takeWord, failureWord, askThree}
+use Rattle.script.specs.Ask.{storeWord, takeWord, responseWord, failureWord, askThree}
 use Rattle.script.proofs.ask.ask_three.Statement.{statement}
 use Rattle.script.proofs.ask.ask_three.Tie as tie
 
@@ -22,8 +22,11 @@ not-store c = sym (c .before .same .ensures) ∙ c .if1 .left
 not-take : (c : tie.Else2) → sameBytes (call (c .before .before .before)) takeWord ≡ false
 not-take c = sym (c .before .same2 .ensures) ∙ c .if2 .left
 
-not-failure : (c : tie.Else3) → sameBytes (call (c .before .before .before .before .before .before)) failureWord ≡ false
-not-failure c = sym (c .before .same3 .ensures) ∙ c .if3 .left
+not-response : (c : tie.Else3) → sameBytes (call (c .before .before .before .before .before .before)) responseWord ≡ false
+not-response c = sym (c .before .same3 .ensures) ∙ c .if3 .left
+
+not-failure : (c : tie.Else4) → sameBytes (call (c .before .before .before .before .before .before .before .before .before)) failureWord ≡ false
+not-failure c = sym (c .before .same4 .ensures) ∙ c .if4 .left
 
 slice-aggregate-same : tie.Need-slice-aggregate-same
 slice-aggregate-same c = search needs
@@ -64,25 +67,40 @@ slice-aggregate-same-3 c = search needs
 same-requires-3 : tie.Need-same-requires-3
 same-requires-3 c κs = search needs
 
-number-of-requires-3 : tie.Need-number-of-requires-3
-number-of-requires-3 c κs = search needs
-
-failure-ask-requires : tie.Need-failure-ask-requires
-failure-ask-requires c κs = search needs
-
 returns-3 : tie.Need-returns-3
 unfolding askThree
 returns-3 c =
-    let taken = c .before .before in
-    let past-take = taken .before .before .before in
+    let past-take = c .before .before .before in
     let past-store = past-take .before .before .before in
-    rw (not-store past-store, not-take past-take, sym (taken .before .same3 .ensures) ∙ taken .if3 .taken) (c .failure-ask .ensures ∙ cc)
+    rw (not-store past-store, not-take past-take, sym (c .before .same3 .ensures) ∙ c .if3 .taken) refl
 
 slice-aggregate-same-4 : tie.Need-slice-aggregate-same-4
 slice-aggregate-same-4 c = search needs
 
 same-requires-4 : tie.Need-same-requires-4
 same-requires-4 c κs = search needs
+
+number-of-requires-3 : tie.Need-number-of-requires-3
+number-of-requires-3 c κs = search needs
+
+failure-ask-requires : tie.Need-failure-ask-requires
+failure-ask-requires c κs = search needs
+
+returns-4 : tie.Need-returns-4
+unfolding askThree
+returns-4 c =
+    let taken = c .before .before in
+    let past-response = taken .before .before .before in
+    let past-take = past-response .before .before .before in
+    let past-store = past-take .before .before .before in
+    rw (not-store past-store, not-take past-take, not-response past-response, sym (taken .before .same4 .ensures) ∙ taken .if4 .taken)
+    (c .failure-ask .ensures ∙ cc)
+
+slice-aggregate-same-5 : tie.Need-slice-aggregate-same-5
+slice-aggregate-same-5 c = search needs
+
+same-requires-5 : tie.Need-same-requires-5
+same-requires-5 c κs = search needs
 
 number-of-requires-4 : tie.Need-number-of-requires-4
 number-of-requires-4 c κs = search needs
@@ -93,23 +111,38 @@ number-of-requires-5 c κs = search needs
 byte-ask-requires : tie.Need-byte-ask-requires
 byte-ask-requires c κs = search needs
 
-returns-4 : tie.Need-returns-4
-unfolding askThree
-returns-4 c =
-    let taken = c .before .before .before in
-    let past-failure = taken .before .before .before in
-    let past-take = past-failure .before .before .before in
-    let past-store = past-take .before .before .before in
-    rw (not-store past-store, not-take past-take, not-failure past-failure, sym (taken .before .same4 .ensures) ∙ taken .if4 .taken)
-    (c .byte-ask .ensures ∙ cc)
-
 returns-5 : tie.Need-returns-5
 unfolding askThree
 returns-5 c =
-    let past-failure = c .before .before .before in
-    let past-take = past-failure .before .before .before in
+    let taken = c .before .before .before in
+    let past-failure = taken .before .before .before in
+    let past-response = past-failure .before .before .before in
+    let past-take = past-response .before .before .before in
     let past-store = past-take .before .before .before in
-    rw (not-store past-store, not-take past-take, not-failure past-failure, sym (c .before .same4 .ensures) ∙ c .if4 .left) refl
+    rw (
+      not-store past-store,
+      not-take past-take,
+      not-response past-response,
+      not-failure past-failure,
+      sym (taken .before .same5 .ensures) ∙ taken .if5 .taken,
+    )
+    (c .byte-ask .ensures ∙ cc)
+
+returns-6 : tie.Need-returns-6
+unfolding askThree
+returns-6 c =
+    let past-failure = c .before .before .before in
+    let past-response = past-failure .before .before .before in
+    let past-take = past-response .before .before .before in
+    let past-store = past-take .before .before .before in
+    rw (
+      not-store past-store,
+      not-take past-take,
+      not-response past-response,
+      not-failure past-failure,
+      sym (c .before .same5 .ensures) ∙ c .if5 .left,
+    )
+    refl
 
 pub ask-three-spec : {M : Type 1} → statement M
 ask-three-spec =
@@ -126,13 +159,16 @@ ask-three-spec =
     returns-2
     slice-aggregate-same-3
     same-requires-3
-    number-of-requires-3
-    failure-ask-requires
     returns-3
     slice-aggregate-same-4
     same-requires-4
+    number-of-requires-3
+    failure-ask-requires
+    returns-4
+    slice-aggregate-same-5
+    same-requires-5
     number-of-requires-4
     number-of-requires-5
     byte-ask-requires
-    returns-4
-    returns-5)
+    returns-5
+    returns-6)
