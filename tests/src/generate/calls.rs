@@ -123,7 +123,7 @@ impl Calls {
             8 => Call::FreeBlocks,
             _ => {
                 let (name, body) = files::file(machine, self.last, self.shape, random);
-                // Of a response alone the length says where the file ends.
+                // 'The file is exactly that long', and may be empty.
                 let file = if random.once_in(40) { &[] } else { &body[..] };
                 let (boundary, response) = responses::response(&name, file, random);
                 Call::TakeResponse { boundary, response }
