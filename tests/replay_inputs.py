@@ -57,6 +57,35 @@ def whole_year():
     yield "ceiling 460176", "rate 50 36"
 
 
+def responses():
+    """Lines with responses around document 01's example 10, each with its answer: what is no such line, every cause before 7, boundaries."""
+    name, file = files.name("203", "0000"), files.body([files.update()])
+    good = files.response(name, file).hex()
+    unknown = ["response", "response B", "response B - -", "response  -", "response B 0", "response B 0g", "response B hex:00", "response hex:4 -",
+               "response hex:4g -", "Response B -", "RESPONSE B -", "response B -- ", " response B -"]
+    yield from ((line, "unknown") for line in unknown)
+    yield "response B -", "no unit"
+    for line, cause in zip(READY, ("refused 3", "refused 5", "refused 17")):
+        yield line, "accepted"
+        yield "response B -", cause
+    yield from ((line, "unknown") for line in unknown)
+    for line in ("response hex: -", f"response boundary {good}", f"response --BOUNDARY {good}", f"response hex: {good}", f"response BOUNDARY {good[:-2]}",
+                 f"response BOUNDARY {good[2:]}", f"response BOUNDARY {good}0d", f"response BOUNDARY {good}0d0a0d0a"):
+        yield line, "refused 17"
+    for other in (b"", b"x", b'"' + name + b'"', name + b" "):
+        yield f"response BOUNDARY {files.response(other, file).hex()}", "refused 7"
+    yield f"response BOUNDARY {files.response(name, b'').hex()}", "refused 9"
+    yield "free", "16"
+    for boundary in ("hex:" + b"BOUNDARY".hex(), "BOUNDARY"):
+        yield f"response {boundary} {good.upper()}0d0A", "accepted"
+    yield "state", "clock 827917200 floor 313 w 2 h none k 0 f 0 u 827926200 command 0 held 314:0"
+    for boundary, answer in (("7", "accepted"), ("z" * 70, "accepted"), ("z" * 71, "refused 17"), ("a-b", "refused 17"), ("a_b", "refused 17")):
+        yield f"response {boundary} {files.response(name, file, boundary).hex()}", answer
+    yield f"response hex:612062 {files.response(name, file, 'a b').hex()}", "refused 17"
+    yield "byte 5 101", "accepted"
+    yield "response B -", "refused 4"
+
+
 def large_log():
     """More lines than any buffer has room for. Without a file there is no rate, and an update is always due."""
     lines, answers = list(READY), ["accepted"] * 3
@@ -76,6 +105,7 @@ def main(folder):
     for case, lines, answers in long_lines():
         write(case, lines, answers)
         write(f"{case}-without-0A", lines, answers, end="")
+    write("responses", *zip(*responses()))
     lines, answers = zip(*whole_year())
     write("whole-year", READY + list(lines), ["accepted"] * 3 + list(answers))
     write("large-log", *large_log())

@@ -183,6 +183,40 @@ fn every_byte_of_the_boundary() {
     assert_eq!(trial.tally.total(), 2 * 8 * 256 + 141);
 }
 
+/// Ways to spell a length, for a file that is there and for an empty one, which
+/// is well formed and then refused with 9.
+#[test]
+fn every_spelling_of_a_length() {
+    let mut trial = Trial::new("lengths");
+    let (name, body) = example_10();
+    for (file, well_formed) in [(&body[..], 0), (b"", 9)] {
+        let length = file.len();
+        for (digits, due) in [
+            (format!("{length}"), well_formed),
+            (format!("{length:0>3}"), well_formed),
+            (format!("{length:0>6}"), well_formed),
+            (format!("{length:0>7}"), 17),
+            (format!("{length:0>20}"), 17),
+            (format!("{}", length + 1), 17),
+            (String::new(), 17),
+            (format!(" {length}"), 17),
+            (format!("{length} "), 17),
+            (format!("+{length}"), 17),
+            (format!("-{length}"), 17),
+            (format!("{length}\r"), 17),
+            (format!("{length}\n"), 17),
+            (format!("{length}.0"), 17),
+            (format!("0x{length:x}"), 17),
+        ] {
+            let mut frame = Frame::figure(BOUNDARY, &name, file);
+            *frame.length() = format!("Content-Length: {digits}").into_bytes();
+            assert_eq!(trial.cause(BOUNDARY, &frame.bytes()), due, "{digits:?}");
+        }
+    }
+    trial.tally.settle(&[9, 17]);
+    assert_eq!(trial.tally.total(), 2 * 15);
+}
+
 /// Every kind of change to a good response.
 #[test]
 fn every_kind_of_change() {

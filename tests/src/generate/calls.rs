@@ -123,7 +123,9 @@ impl Calls {
             8 => Call::FreeBlocks,
             _ => {
                 let (name, body) = files::file(machine, self.last, self.shape, random);
-                let (boundary, response) = responses::response(&name, &body, random);
+                // 'The file is exactly that long', and may be empty.
+                let file = if random.once_in(40) { &[] } else { &body[..] };
+                let (boundary, response) = responses::response(&name, file, random);
                 Call::TakeResponse { boundary, response }
             }
         }
