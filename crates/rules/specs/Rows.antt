@@ -1,5 +1,5 @@
--- The rows of 01's table (Causes of refusal) for what is read, written, requested and installed: a test of its own for each cause that the call has, in the order
--- in which they are judged. The unit's calls have theirs in the crates above.
+-- The rows of 01's table (Causes of refusal), and of 02, for what is read, taken out of a response, written, requested and installed: a test of its own for each
+-- cause that the call has, in the order in which they are judged. The unit's calls have theirs in the crates above.
 use Prim.Native.Nat.{ℕ}
 use mathlib.Core.Bool.{Bool, true, false, not, _&&_, _||_}
 use mathlib.Core.List.{List, [], _∷_}

@@ -2,22 +2,19 @@
 use Prim.Native.Nat.{ℕ}
 use mathlib.Core.Path.{_≡_}
 use mathlib.Core.Bool.{true, _&&_}
-use mathlib.Core.List.{List, [], _∷_}
+use mathlib.Core.List.{List}
 use mathlib.Core.Option.{Option, none, some}
 use lib.ListN.{length}
 use Rattle.rules.specs.Store.{storeLength, soundStore}
-use Rattle.rules.specs.Table.{Row, firstOf}
+use Rattle.rules.specs.Table.{firstOf}
 use Rattle.rules.specs.declared.Cause.{Cause}
 use Rattle.pool.specs.Held.{heldOf}
 use Rattle.unit.specs.Values.{isSound}
-use Rattle.unit.specs.Rows.{lengthRow, soundRow, clockRow}
 use Rattle.unit.specs.Calls.{clockTime}
 use Rattle.unit.specs.declared.Unit.{Unit}
 use Rattle.unit.specs.declared.Clock.the-variants.{At}
+use Rattle.taking.specs.Taken.{readyRows}
 use Rattle.taking.specs.declared.ready.Ready.{Ready}
-
-abbrev pub readyRows : Unit → List ℕ → List Row
-readyRows u store = lengthRow store ∷ soundRow u store ∷ clockRow u ∷ []
 
 abbrev pub readyBy : Option Cause → ℕ → Ready
 readyBy none t = Ready.At t

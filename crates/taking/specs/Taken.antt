@@ -13,10 +13,10 @@ use Rattle.pool.specs.Blocks.{freeCount}
 use Rattle.schedule.specs.Stored.{missing}
 use Rattle.about_store.specs.Run.{runStart, runLength, putRecords}
 use Rattle.polling.specs.Requests.{requestsOf, requestsFrom}
+use Rattle.unit.specs.Rows.{lengthRow, soundRow, clockRow}
 use Rattle.unit.specs.Calls.{doneBy, clockTime}
 use Rattle.unit.specs.declared.Unit.{Unit}
 use Rattle.unit.specs.declared.Done.{Done}
-use Rattle.taking.specs.Ready.{readyRows}
 
 -- ---- what is taken, whether it came as a file or in a response
 
@@ -44,6 +44,10 @@ withFile f store u = record {
 abbrev pub taken : Outcome → List ℕ → Unit → Unit
 taken (refuse c) store u = u
 taken (file f) store u = withFile f store u
+
+-- 3, 4 and 5, before anything that is taken is looked at
+abbrev pub readyRows : Unit → List ℕ → List Row
+readyRows u store = lengthRow store ∷ soundRow u store ∷ clockRow u ∷ []
 
 abbrev pub outcomeRows : Unit → List ℕ → Outcome → List Row
 outcomeRows u store o = readyRows u store ++ (outcomeRow o u ∷ [])
