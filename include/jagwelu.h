@@ -11,8 +11,8 @@
  * A question (due, ceiling, command, free blocks, check, request) is given a copy and hands back its answer alone: it changes nothing
  * of the unit, which stays with the caller.
  *
- * Every call may be given any values. A refusal is a number of document 01's table (enum jag_cause; the lowest that applies, where 17
- * stands before 7); unit, store and buffer are then as they were. Behind each call stand the numbers that it may refuse with, in the
+ * Every call may be given any values. A refusal is a number of document 01's table or of 02 (enum jag_cause; the lowest that applies,
+ * where 17 stands before 7); unit, store and buffer are then as they were. Behind each call stand the numbers that it may refuse with, in the
  * order in which they are judged.
  *
  * Seconds count from 2000-01-01 00:00:00 Japanese time and end with 2099; slots are half hours of 1,800 seconds; months count from

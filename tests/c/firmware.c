@@ -168,8 +168,12 @@ static struct jag_unit take_response(struct jag_unit unit, const char *name, siz
     memcpy(copy, store, sizeof store);
     struct jag_done filed = jag_take_file(unit, (const uint8_t *)name, strlen(name), body, length, copy, sizeof copy);
     size_t whole = respond(name, length);
-    printf("response cut: cause %u, of another boundary: cause %u\n", take_whole(unit, BOUNDARY, whole - 1).cause,
-           take_whole(unit, "boundary", whole).cause);
+    static uint8_t before[sizeof store];
+    memcpy(before, store, sizeof store);
+    struct jag_done cut = take_whole(unit, BOUNDARY, whole - 1);
+    struct jag_done other = take_whole(unit, "boundary", whole);
+    printf("response cut: cause %u, of another boundary: cause %u, all as it was %d\n", cut.cause, other.cause,
+           same(cut.unit, unit) && same(other.unit, unit) && memcmp(store, before, sizeof store) == 0);
     struct jag_done done = take_whole(unit, BOUNDARY, whole);
     printf("take response of %zu bytes, %.8s: cause %u, %u blocks free, same as its file %d\n", whole, name, done.cause,
            jag_free_blocks(done.unit).value,

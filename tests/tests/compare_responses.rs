@@ -235,6 +235,40 @@ fn every_kind_of_change() {
     assert_eq!(trial.tally.total(), kinds * CHANGED);
 }
 
+/// Files that look like a frame. Lawful ones, whose rates are the end of a line
+/// and the closing boundary, once and twice, are taken; others are no body.
+#[test]
+fn files_like_frames() {
+    let mut trial = Trial::new("files like frames");
+    let (name, _) = example_10();
+    for times in [1, 2] {
+        let rates = b"\r\n--BOUNDARY--\r\n".repeat(times);
+        let sum: usize = rates.iter().map(|rate| usize::from(*rate)).sum();
+        let head = values("000001260327000112345678901234567890123455");
+        let start = values(&format!("202603270930{:05}", rates.len()));
+        let end = values(&format!("2{:02}20260327113000", sum % (3 + 27)));
+        let body = [head, start, rates, end].concat();
+        let response = Frame::figure(BOUNDARY, &name, &body).bytes();
+        assert_eq!(trial.cause(BOUNDARY, &response), 0);
+    }
+    let files: [&[u8]; 8] = [
+        b"",
+        b"\r",
+        b"\n",
+        b"\r\n",
+        b"\r\n\r\n",
+        b"\r\n--BOUNDARY--",
+        b"\r\n--BOUNDARY--\r\n",
+        b"--BOUNDARY\r\nContent-Length: 0\r\n\r\n\r\n--BOUNDARY--\r\n",
+    ];
+    for file in files {
+        let response = Frame::figure(BOUNDARY, &name, file).bytes();
+        assert_eq!(trial.cause(BOUNDARY, &response), 9);
+    }
+    trial.tally.settle(&[9]);
+    assert_eq!(trial.tally.total(), 10);
+}
+
 /// The longest files that a length can say, many and long headers, and buffers
 /// that lie in one another.
 #[test]

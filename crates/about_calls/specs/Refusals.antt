@@ -73,7 +73,7 @@ ofFile (ceilingOf slot) u = []
 ofFile command u = []
 ofFile freeBlocks u = []
 
--- the rows of 01's table for a call: 3 'store not 23,808 bytes', 4 'unit, or a lent store, not sound'; 1 and 2 are installing's, 15 and 16 of the calls beside
+-- the rows of 01's table, and of 02, for a call: 3 'store not 23,808 bytes', 4 'unit, or a lent store, not sound'; 1 and 2 are installing's, 15 and 16 of the calls beside
 -- the unit
 unfoldable pub callRows : Call → State → List Row
 callRows c s =
@@ -83,7 +83,7 @@ callRows c s =
     ∷ row Cause.Range (outOfRange c)
     ∷ ofFile c (s .unit)
 
--- 'The lowest number that applies is given'
+-- 'The lowest number that applies is given', in the order of the causes' places
 abbrev pub RefusesLowest : Type 0
 RefusesLowest = (c : Call) (s : State) (k : Cause) → (step c s .0 ≡ refused (numberOf k)) ↔ Lowest (callRows c s) k
 
