@@ -85,9 +85,7 @@ pub from-file : (plant name body : List ℕ) → Carries plant (takeFile plant n
 from-file plant name body f e = record { name = name; body = body; read = e }
 
 pub from-response : (plant boundary bytes : List ℕ) → Carries plant (takeResponse plant boundary bytes)
-from-response plant boundary bytes f e =
-    let out = response-taken plant boundary bytes f e in
-    record { name = out .name; body = out .body; read = out .taken }
+from-response plant boundary bytes f e = response-taken plant boundary bytes f e .taken
 
 -- ---- the step
 

@@ -10,6 +10,7 @@ use Rattle.rules.specs.Table.{row, firstOf, appliesIn}
 use Rattle.rules.specs.Rows.{formless, takenRows, carriedRows, responseRows}
 use Rattle.rules.specs.declared.Cause.{Cause}
 use Rattle.about_files.proofs.Table.{rising, first-none}
+use Rattle.about_files.proofs.Accepted.{TakenBy}
 use Rattle.about_files.proofs.ReadRefusals.{causeOf, take-first, take-accepts, outcome-refuses}
 use Rattle.about_responses.specs.Refusals.{CarriedFile, ResponseRefuses, ResponseAccepts}
 
@@ -40,10 +41,8 @@ response-refuses plant boundary s c =
 
 -- a file taken out of a response is taken of the name and file that the response carries
 pub record TakenOut (plant boundary s : List ℕ) (f : File) : Type 0 where
-  pub name : List ℕ
-  pub body : List ℕ
-  pub carried : parseResponse boundary s ≡ some (name, body)
-  pub taken : takeFile plant name body ≡ file f
+  pub taken : TakenBy plant f
+  pub carried : parseResponse boundary s ≡ some (taken .name, taken .body)
 
 pub response-taken : (plant boundary s : List ℕ) (f : File) → takeResponse plant boundary s ≡ file f → TakenOut plant boundary s f
 unfolding takeResponse
@@ -51,7 +50,7 @@ response-taken plant boundary s f e = go (parseResponse boundary s) refl e
   where
     go : (o : Option (List ℕ × List ℕ)) → parseResponse boundary s ≡ o → takeParsed plant o ≡ file f → TakenOut plant boundary s f
     go none p e = absurd (Option·some-ne-none Cause.Response (ap causeOf e))
-    go (some q) p e = record { name = q .0; body = q .1; carried = p; taken = e }
+    go (some q) p e = record { taken = record { name = q .0; body = q .1; read = e }; carried = p }
 
 -- taking a response that carries a name and file is taking these, and so are its rows
 module _ (plant boundary s name body : List ℕ) (carried : parseResponse boundary s ≡ some (name, body)) where
@@ -68,9 +67,10 @@ response-accepts plant boundary s f = (there, back)
   where
     there : takeResponse plant boundary s ≡ file f → ((c : Cause) → appliesIn (responseRows plant boundary s) c ≡ false) × CarriedFile boundary s f
     there e =
-        let t = response-taken plant boundary s f e in (
+        let out = response-taken plant boundary s f e in
+        let t = out .taken in (
           first-none (responseRows plant boundary s) .0 (sym (response-first plant boundary s) ∙ ap causeOf e),
-          record { name = t .name; body = t .body; carried = t .carried; parsed = take-accepts plant (t .name) (t .body) f .0 (t .taken) .1 },
+          record { name = t .name; body = t .body; carried = out .carried; parsed = take-accepts plant (t .name) (t .body) f .0 (t .read) .1 },
         )
 
     back : ((c : Cause) → appliesIn (responseRows plant boundary s) c ≡ false) × CarriedFile boundary s f → takeResponse plant boundary s ≡ file f

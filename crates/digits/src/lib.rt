@@ -9,6 +9,9 @@ ghost use Rattle.rules.specs.File.{sum};
 ghost use Rattle.digits.specs.Decimal.{decimalOf, asciiOf, ratesSum};
 pub use buffer::put;
 
+// As many digits as a date and time have; 64 bits hold their number.
+const MOST_DIGITS: usize = 14;
+
 // A number of at most 14 digits, or what is none.
 pub enum Decimal {
     Number(u64),
@@ -81,7 +84,7 @@ pub fn same(a: &[u8], b: &[u8]) -> bool
 pub fn number(s: &[u8]) -> Decimal
     ensures { λ r. ⌜ r ≡ decimalOf (now (s .entry)) ⌝ }
 {
-    if 14 < s.len() {
+    if MOST_DIGITS < s.len() {
         return Decimal::Broken;
     }
     let mut value: u64 = 0;
@@ -101,7 +104,7 @@ pub fn number(s: &[u8]) -> Decimal
 pub fn ascii_number(s: &[u8]) -> Decimal
     ensures { λ r. ⌜ r ≡ asciiOf (now (s .entry)) ⌝ }
 {
-    if 14 < s.len() {
+    if MOST_DIGITS < s.len() {
         return Decimal::Broken;
     }
     if !all_ascii(s) {

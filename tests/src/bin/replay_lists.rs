@@ -12,49 +12,33 @@ use compare::reference::machine::STORE_LENGTH;
 use compare::reference::Machine;
 use compare::replay::{Replay, LINE_MAX};
 
+/// What a file taken can be answered with, and last what only a response can.
+static TAKING: [&str; 13] = [
+    "accepted",
+    "refused 3",
+    "refused 4",
+    "refused 5",
+    "refused 7",
+    "refused 8",
+    "refused 9",
+    "refused 10",
+    "refused 11",
+    "refused 12",
+    "refused 13",
+    "refused 14",
+    "refused 17",
+];
+
 /// Every word with every answer that it can have: what must come, and nothing
 /// besides. What any line may be answered with stands under no word.
-const ANSWERS: &[(&str, &[&str])] = &[
+static ANSWERS: &[(&str, &[&str])] = &[
     ("install", &["accepted", "refused 1", "refused 2"]),
     ("store", &["accepted"]),
     ("byte", &["accepted"]),
     ("tick", &["accepted", "refused 3", "refused 4", "refused 6"]),
     ("lost", &["accepted"]),
-    (
-        "take",
-        &[
-            "accepted",
-            "refused 3",
-            "refused 4",
-            "refused 5",
-            "refused 7",
-            "refused 8",
-            "refused 9",
-            "refused 10",
-            "refused 11",
-            "refused 12",
-            "refused 13",
-            "refused 14",
-        ],
-    ),
-    (
-        "response",
-        &[
-            "accepted",
-            "refused 3",
-            "refused 4",
-            "refused 5",
-            "refused 17",
-            "refused 7",
-            "refused 8",
-            "refused 9",
-            "refused 10",
-            "refused 11",
-            "refused 12",
-            "refused 13",
-            "refused 14",
-        ],
-    ),
+    ("take", TAKING.split_at(12).0),
+    ("response", &TAKING),
     ("failure update", &["accepted", "refused 5", "refused 6"]),
     ("failure fixed", &["accepted", "refused 5", "refused 6"]),
     (
