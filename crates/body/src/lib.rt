@@ -1,4 +1,6 @@
 // The body of a file, read under its name: each of the causes 9 to 13 is looked for in all records before the next.
+#![tactic(auto)]
+
 mod accepted;
 mod date_stage;
 mod stages;

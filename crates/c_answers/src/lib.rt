@@ -1,5 +1,7 @@
 // The answers of questions, of reading, of writing and of the error file as C gets them: 0 or a cause's number, and numbers that are 0 where it is
 // refused.
+#![tactic(auto)]
+
 ghost use Rattle.std.specs.Prelude.{◌≡◌};
 ghost use Rattle.c_answers.specs.Answers.{due_numbers, ceiling_numbers, command_number, blocks_number, written_numbers, no_file, file_numbers};
 

@@ -1,4 +1,6 @@
 // A body taken apart, as C asks for it and gets it: by the number of its format, where the fields of a record stand, and the rates end to end.
+#![tactic(auto)]
+
 ghost use Rattle.std.specs.Prelude.{◌≡◌, length};
 ghost use Rattle.rules.specs.Name.{format_of};
 ghost use Rattle.rules.specs.Writer.{written_of, buffer_after};

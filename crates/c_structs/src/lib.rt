@@ -1,4 +1,6 @@
 // The unit as C holds it, and the unit that it stands for.
+#![tactic(auto)]
+
 ghost use Rattle.std.specs.Prelude.{◌≡◌};
 ghost use Rattle.plant.specs.Plant.{given_of};
 ghost use Rattle.c_structs.specs.Held.{settings_in, settings_held, clock_from, mark_of, second_of, opened, shut_of, answer_number, handed, newly};

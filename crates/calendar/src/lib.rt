@@ -1,4 +1,6 @@
 // The calendar of 2000 to 2099: seconds, slots, days and months, and dates in digits. Every answer equals its definition in `rules`.
+#![tactic(auto)]
+
 mod dates;
 mod months;
 

@@ -1,4 +1,6 @@
 // One call of the unit given as a value, and its reply: what a list of calls is made of.
+#![tactic(auto)]
+
 ghost use Rattle.std.specs.Prelude.{◌≡◌};
 ghost use Rattle.calls.specs.Stepping.{answered, due_replied, ceiling_replied, command_replied, free_replied, stepped_of, store_of};
 

@@ -1,4 +1,6 @@
 // The ceiling of a slot, under every check: what the pool and the store say of it, and what that is of the inverter's capacity.
+#![tactic(auto)]
+
 ghost use Rattle.std.specs.Prelude.{◌≡◌};
 ghost use Rattle.plant.specs.Plant.{settings_of};
 ghost use Rattle.schedule.specs.Stored.{stored_rate};

@@ -1,4 +1,6 @@
 // Bytes as digits: whether they are some, the number that they stand for, sums and comparisons; and bytes put into a buffer. Scans keep a flag or the greatest byte, and do not leave early.
+#![tactic(auto)]
+
 mod buffer;
 
 ghost use Rattle.std.specs.Prelude.{◌≡◌, ◌≤◌, max, length};

@@ -1,4 +1,6 @@
 // The error file (01, Beside the unit): its code, and its message text as a part of the file.
+#![tactic(auto)]
+
 ghost use Rattle.std.specs.Prelude.{◌≡◌, ◌-◌, ◌≤◌, length};
 ghost use Rattle.rules.specs.ErrorFile.{is_error_file, error_code, code_of, error_text};
 ghost use Rattle.error_file.specs.Head.{ascii_digit, Digit, has_head, Headed};

@@ -1,4 +1,6 @@
 // The form of a body (01, Names and bodies): 'record count, digit, 203's n above 336, length, 301 result' (01, Causes of refusal, 9).
+#![tactic(auto)]
+
 ghost use Rattle.std.specs.Prelude.{◌≡◌};
 ghost use Rattle.rules.specs.Body.{count_of, counted, record_shape};
 ghost use Rattle.form.specs.Walk.{shaped, registered, Sized};

@@ -1,5 +1,7 @@
 // Numbers in groups of seven bits, low group first, top bit set on all groups but the last (02, §2).
 // What is read is exactly what is put: a number has one form, the shortest, and no other bytes are read as it.
+#![tactic(auto)]
+
 ghost use mathlib.Core.Path.{◌≡◌};
 ghost use Prim.Native.Nat.{◌+◌, ◌≤◌, ◌<◌, ◌^◌, min};
 ghost use lib.ListN.{length};

@@ -1,4 +1,6 @@
 // What C calls (include/jagwelu.h): the unit's calls over a struct that C holds, and files read and written without a unit.
+#![tactic(auto)]
+
 ghost use Rattle.std.specs.Prelude.{◌≡◌, length};
 ghost use Rattle.std.proofs.Math.Option.{none, some};
 ghost use Rattle.rules.specs.ErrorFile.{error_code, code_of};

@@ -1,5 +1,7 @@
 // The layout of a body (01, Names and bodies), for all that read or write one: where a record's fields stand, the numbers of each format,
 // and what a record's digits say of its length, its checksum and its dates.
+#![tactic(auto)]
+
 mod dates;
 mod formats;
 mod places;

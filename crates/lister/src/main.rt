@@ -1,4 +1,6 @@
 // The lister (01, Beside the unit), a program: prints the line of what standard input holds.
+#![tactic(auto)]
+
 ghost use Rattle.std.specs.Prelude.{◌≡◌, ◌≤◌, length};
 ghost use Rattle.io.specs.Counts.{IsPrefixLen};
 ghost use Rattle.listing.specs.Bound.{enough};

@@ -1,4 +1,6 @@
 // The lister's line (01, Beside the unit): what it prints for a name, byte 0A and a body.
+#![tactic(auto)]
+
 ghost use Rattle.std.specs.Prelude.{◌≡◌, ◌+◌, ◌<◌, ◌≤◌, min, [], ◌∷◌, ◌++◌, length};
 ghost use Rattle.rules.specs.Lister.{name_part, numeral, line};
 ghost use Rattle.listing.specs.Line.{room, line_in, put_in, puts, ok_text, refused_text, text_of, Printable};

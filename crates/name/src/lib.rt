@@ -1,4 +1,6 @@
 // A file's name (01, Names and bodies): its format and segment, the digits of its plant ID, and whether it keeps the form.
+#![tactic(auto)]
+
 ghost use Rattle.std.specs.Prelude.{◌≡◌, true, ◌&&◌, ◌+◌, ◌-◌, ◌≤◌, length};
 ghost use Rattle.std.proofs.Math.Option.{some};
 ghost use Rattle.rules.specs.Digits.{part, digits, value, all_ascii, from_ascii, same_bytes};

@@ -1,4 +1,6 @@
 // What 002 itself gives as examples, through the library: the messages of its table 6.4, the request of its 4.2 and the names of its 4.2 and 5.1.
+#![tactic(auto)]
+
 use libc::STDOUT_FILENO;
 use name::NameRead;
 use rules::{Cause, ErrorCode, Reading, Written};

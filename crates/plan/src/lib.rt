@@ -1,4 +1,6 @@
 // What the writer decides before the first byte (01, Beside the unit): the cause of a refusal, or the records that the body has.
+#![tactic(auto)]
+
 ghost use Rattle.std.specs.Prelude.{◌≡◌, ◌≤◌};
 ghost use Rattle.rules.specs.Digits.{digits};
 ghost use Rattle.plan.specs.Fields.{fields_of};

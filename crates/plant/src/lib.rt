@@ -1,4 +1,6 @@
 // The plant (01, Time, plant, settings): its ID, its MAC address, its settings, and percent of the inverter from percent of C.
+#![tactic(auto)]
+
 ghost use Rattle.std.specs.Prelude.{◌≡◌, ◌≤◌, min, length};
 ghost use Rattle.rules.specs.Plant.{plant_id, weighted_sum, mac_address, all_hex, hex_byte, valid_settings, capacity, contracted, percent, parts_of, last_digit, installing};
 ghost use Rattle.plant.specs.Plant.{kept_of, kept_from, given_of, widest, narrowed, settings_of, valid_plant, plant_of, installed, refusal};

@@ -1,4 +1,6 @@
 // What the unit asks the server for, and when (01, The plain machine): the flags w and h, the failures k, the fixed time f and the update time u.
+#![tactic(auto)]
+
 ghost use Rattle.std.specs.Prelude.{◌≡◌, cond, ◌<◌};
 ghost use Rattle.rules.specs.Calendar.{day_length};
 ghost use Rattle.rules.specs.Store.{sound_requests, fresh_requests};

@@ -1,3 +1,5 @@
+#![tactic(auto)]
+
 ghost use Rattle.std.specs.Prelude.{◌≡◌, ℕ, ◌<◌, ◌+◌, ◌*◌, ◌^◌, eqb, get_or};
 ghost use Rattle.rules.specs.Store.{block_count};
 ghost use Rattle.pool.specs.Below.{tick, count_below, all_below, pairs_below};

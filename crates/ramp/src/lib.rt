@@ -1,4 +1,6 @@
 // The command over the seconds of a tick: at once over a slot, and over the slots between only by the last of them, so that a long tick costs what a short one costs.
+#![tactic(auto)]
+
 ghost use Rattle.std.specs.Prelude.{◌≡◌, ◌+◌, ◌-◌, ◌*◌};
 ghost use Rattle.rules.specs.Calendar.{slot_length};
 ghost use Rattle.plant.specs.Plant.{settings_of};

@@ -1,4 +1,6 @@
 // The records of a body (01, Names and bodies): where the fields of each stand, a field as that part of the body, and the rates end to end.
+#![tactic(auto)]
+
 mod copying;
 mod walk;
 

@@ -1,4 +1,6 @@
 // Takes apart the body of 01's example 10 and a 201 of example 3's months, and writes each again: whether fields and bytes are as they were.
+#![tactic(auto)]
+
 use libc::STDOUT_FILENO;
 use records::Field;
 use rules::{Format, Written};

@@ -1,4 +1,6 @@
 // Replays a list of calls: standard input is text, a call to a line, and one line goes out for each.
+#![tactic(auto)]
+
 ghost use Rattle.std.specs.Prelude.{◌<◌};
 
 mod answers;

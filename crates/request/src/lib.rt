@@ -1,4 +1,6 @@
 // The request (01, Beside the unit): 84 bytes that ask for a schedule, from plant ID, MAC address and segment.
+#![tactic(auto)]
+
 ghost use Rattle.std.specs.Prelude.{◌≡◌, true, ◌++◌, ◌+◌, ◌≤◌, length, drop};
 ghost use Rattle.std.proofs.Math.Seq.{paste};
 ghost use Rattle.rules.specs.Digits.{all_digits, to_ascii};

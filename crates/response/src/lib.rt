@@ -1,4 +1,6 @@
 // Whole responses from the modem (02, §1): where the name and the file stand in a response's bytes. Nothing of the file is looked at.
+#![tactic(auto)]
+
 mod edges;
 mod fields;
 mod headers;

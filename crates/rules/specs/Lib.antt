@@ -12,6 +12,8 @@ pub mod Table
 pub mod Writer
 pub mod ErrorFile
 pub mod Request
+pub mod Groups
+pub mod Turned
 pub mod Rows
 pub mod Lister
 pub mod Reading

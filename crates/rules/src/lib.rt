@@ -1,4 +1,5 @@
 // What the schedule unit's answers are made of. specs/ says what each one means, rule by rule of document 01.
+#![tactic(auto)]
 
 mod lengths;
 mod numbers;

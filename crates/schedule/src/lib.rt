@@ -1,4 +1,6 @@
 // The held months' rates: pool and store together. Every answer equals its definition, for every pool, every store and every number.
+#![tactic(auto)]
+
 mod layout;
 mod needed;
 mod numbers;

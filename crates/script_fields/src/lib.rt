@@ -1,4 +1,6 @@
 // Words that stand for bytes, read into a lent buffer; bytes, numbers and hex digits put into one.
+#![tactic(auto)]
+
 mod field;
 mod hex;
 mod put;

@@ -1,4 +1,6 @@
 // The words of a line of text, and the numbers among them.
+#![tactic(auto)]
+
 mod number;
 mod words;
 

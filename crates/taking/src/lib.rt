@@ -1,4 +1,6 @@
 // A file taken by a unit, by itself or in a response of the modem.
+#![tactic(auto)]
+
 mod put;
 mod ready;
 mod responses;

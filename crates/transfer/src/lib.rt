@@ -1,4 +1,6 @@
 // Reading a name and body (01, Names and bodies): without a plant, for a plant, and to be taken by its unit.
+#![tactic(auto)]
+
 ghost use Rattle.std.specs.Prelude.{◌≡◌, not};
 ghost use Rattle.std.proofs.Math.Option.{none, some};
 ghost use Rattle.rules.specs.Body.{is_schedule};

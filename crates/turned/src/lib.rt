@@ -1,4 +1,6 @@
 // A month's bytes in the stored form's order, and back (02, §2). One is the other's inverse: turned and put back, the bytes are what they were.
+#![tactic(auto)]
+
 ghost use mathlib.Core.Path.{◌≡◌};
 ghost use Prim.Native.Nat.{◌/◌, ◌≤◌, ◌<◌};
 ghost use lib.ListN.{length};

@@ -1,4 +1,6 @@
 // The schedule unit (01, The store, The plain machine): its values, and its calls.
+#![tactic(auto)]
+
 ghost use Rattle.std.specs.Prelude.{◌≡◌};
 ghost use Rattle.rules.specs.Store.{sound_clock};
 ghost use Rattle.plant.specs.Plant.{given_of};

@@ -1,4 +1,6 @@
 // The writer (01, Beside the unit): a 201, 202 or 203 body from its fields, into a lent buffer.
+#![tactic(auto)]
+
 ghost use Rattle.std.specs.Prelude.{◌≡◌, ◌-◌, length};
 ghost use Rattle.rules.specs.Writer.{written_of, buffer_after, write_body, fitting};
 ghost use Rattle.plan.specs.Fields.{fields_of};
