@@ -8,7 +8,7 @@ use layout::{PLANT, RATE_COUNT, RATES, START};
 use rules::{Format, HIGHEST_RATE};
 
 // What is looked at in all records before the next.
-#[derive(Drop)]
+#[derive(Clone, Copy)]
 pub enum Stage {
     Rates,
     Checksums,

@@ -8,14 +8,14 @@ ghost use Rattle.c_answers.specs.Answers.{due_numbers, ceiling_numbers, command_
 use rules::{Ceiling, Command, Due, FreeBlocks, Reading, Written};
 
 #[repr(C)]
-#[derive(Drop)]
+#[derive(Clone, Copy)]
 pub struct Number {
     pub cause: u32,
     pub value: u32,
 }
 
 #[repr(C)]
-#[derive(Drop)]
+#[derive(Clone, Copy)]
 pub struct WrittenBytes {
     pub length: usize,
     pub cause: u32,
@@ -23,7 +23,7 @@ pub struct WrittenBytes {
 
 // kind is 0 for nothing, 1 for the update, 2 for the fixed schedule of that flag.
 #[repr(C)]
-#[derive(Drop)]
+#[derive(Clone, Copy)]
 pub struct DueAnswer {
     pub cause: u32,
     pub kind: u32,
@@ -31,7 +31,7 @@ pub struct DueAnswer {
 }
 
 #[repr(C)]
-#[derive(Drop)]
+#[derive(Clone, Copy)]
 pub struct CeilingAnswer {
     pub cause: u32,
     pub has_rate: u32,
@@ -40,7 +40,7 @@ pub struct CeilingAnswer {
 }
 
 #[repr(C)]
-#[derive(Drop)]
+#[derive(Clone, Copy)]
 pub struct FileAnswer {
     pub cause: u32,
     pub format: u32,
@@ -54,7 +54,7 @@ pub struct FileAnswer {
 }
 
 #[repr(C)]
-#[derive(Drop)]
+#[derive(Clone, Copy)]
 pub struct ErrorAnswer {
     pub text_at: usize,
     pub text_length: usize,

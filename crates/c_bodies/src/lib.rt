@@ -11,7 +11,7 @@ use records::Located;
 use rules::{Cause, Format, Written};
 
 // The format that a number stands for.
-#[derive(Drop)]
+#[derive(Clone, Copy)]
 enum FormatFound {
     Known(Format),
     Unknown,
@@ -59,7 +59,7 @@ pub fn copied(format: u32, body: &[u8], out: &mut [u8]) -> Written
 
 // Where a record's fields stand: places that are 0 where it is refused, and 0 or a cause's number.
 #[repr(C)]
-#[derive(Drop)]
+#[derive(Clone, Copy)]
 pub struct RecordPlaces {
     pub schedule: usize,
     pub plant: usize,

@@ -13,7 +13,7 @@ use unit::{Clock, Done, Installed, Unit};
 
 // The settings in fields of fixed layout: wide, as an installer gives them.
 #[repr(C)]
-#[derive(Drop)]
+#[derive(Clone, Copy)]
 pub struct HeldSettings {
     pub panel: u64,
     pub inverter: u64,
@@ -22,7 +22,7 @@ pub struct HeldSettings {
 
 // A unit in fields of fixed layout. clock_set is 1 and clock the second where the clock is set; else both are 0.
 #[repr(C)]
-#[derive(Drop)]
+#[derive(Clone, Copy)]
 pub struct HeldUnit {
     pub id: [u8; 26],
     pub mac: [u8; 12],
@@ -42,7 +42,7 @@ pub struct HeldUnit {
 
 // A unit after a call, and 0 or the number of the cause that refused it.
 #[repr(C)]
-#[derive(Drop)]
+#[derive(Clone, Copy)]
 pub struct Handed {
     pub unit: HeldUnit,
     pub cause: u32,

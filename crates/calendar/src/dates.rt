@@ -8,14 +8,14 @@ use crate::months::{FIRST_YEAR, MONTHS_OF_YEAR, YEARS, days_of_month, first_day,
 use rules::DAY_LENGTH;
 
 // The second, or the slot, that digits stand for; Missing where they stand for none.
-#[derive(Drop)]
+#[derive(Clone, Copy)]
 pub enum Moment {
     At(u32),
     Missing,
 }
 
 // The month that begins at a start.
-#[derive(Drop)]
+#[derive(Clone, Copy)]
 pub enum Begun {
     Month(u16),
     Nothing,

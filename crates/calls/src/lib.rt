@@ -8,7 +8,7 @@ use rules::{Answer, Ceiling, Command, Due, FreeBlocks, Kind};
 use unit::{CeilingAsked, CommandAsked, Done, DueAsked, FreeAsked, Unit};
 
 // A call, with the values that it is given besides unit and store; name and body of a file, boundary and bytes of a response are lent.
-#[derive(Drop)]
+#[derive(Clone, Copy)]
 pub enum Call {
     Tick(u64),
     ClockLost,
@@ -22,7 +22,7 @@ pub enum Call {
 }
 
 // The answer to it.
-#[derive(Drop)]
+#[derive(Clone, Copy)]
 pub enum Reply {
     Done(Answer),
     Due(Due),
@@ -32,7 +32,7 @@ pub enum Reply {
 }
 
 // A unit after a call, and the reply.
-#[derive(Drop)]
+#[derive(Clone, Copy)]
 pub struct Stepped {
     pub unit: Unit,
     pub reply: Reply,

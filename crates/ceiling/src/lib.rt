@@ -11,7 +11,7 @@ use pool::Pool;
 use schedule::StoredRate;
 
 // A slot's rate, in percent of C, and its percent of the inverter's capacity; or no rate, where no file gave one.
-#[derive(Drop)]
+#[derive(Clone, Copy)]
 pub enum SlotCeiling {
     Rated { rate: u8, percent: u8 },
     NoRate,

@@ -14,7 +14,7 @@ pub use buffer::put;
 const MOST_DIGITS: usize = 14;
 
 // A number of at most 14 digits, or what is none.
-#[derive(Drop)]
+#[derive(Clone, Copy)]
 pub enum Decimal {
     Number(u64),
     Broken,

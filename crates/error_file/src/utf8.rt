@@ -4,7 +4,7 @@ ghost use Rattle.rules.specs.ErrorFile.{is_lead, more, least, most, utf8};
 ghost use Rattle.error_file.specs.Walk.{rest};
 
 // Whether all bytes so far were right, how many the character still asks for, and the bounds of the first of these.
-#[derive(Drop)]
+#[derive(Clone, Copy)]
 struct Walk {
     good: bool,
     asked: u8,

@@ -10,7 +10,7 @@ ghost use Rattle.rules.specs.Groups.{groups};
 ghost use Rattle.groups.specs.Placed.{reading_at, bytes_after, place_after};
 
 // A number and the place after it, or bytes that begin with none: cut, not in the shortest form, or of a sixth group.
-#[derive(Drop)]
+#[derive(Clone, Copy)]
 pub enum Reading {
     Number { value: u64, next: usize },
     Broken,

@@ -14,7 +14,7 @@ const NAME_LENGTH: usize = 55;
 const ENOUGH: usize = NAME_LENGTH + 1 + layout::LONGEST_BODY + 1;
 
 // What was read: so many bytes, up to the input's end or as many as there is room for, or up to a read that failed.
-#[derive(Drop)]
+#[derive(Clone, Copy)]
 struct Input {
     pub count: usize,
     pub failed: bool,

@@ -19,7 +19,7 @@ const OK: [u8; ROOM] = *b"ok \0\0\0\0\0\0\0\0\0\0\0\0\0\0\0\0\0";
 const REFUSED: [u8; ROOM] = *b"refused \0\0\0\0\0\0\0\0\0\0\0\0";
 
 // A line: its bytes, then zeros, and its length.
-#[derive(Drop)]
+#[derive(Clone, Copy)]
 pub struct Line {
     pub bytes: [u8; ROOM],
     pub length: usize,

@@ -47,14 +47,14 @@ const UNDERSCORE: [u8; 1] = *b"_";
 const DOT_DATA: [u8; 5] = *b".data";
 
 // What a name says of its file; the segment's four digits as a number.
-#[derive(Drop)]
+#[derive(Clone, Copy)]
 pub struct Fields {
     pub format: Format,
     pub segment: u16,
 }
 
 // A name's fields; Broken where the bytes break the form (cause 7).
-#[derive(Drop)]
+#[derive(Clone, Copy)]
 pub enum NameRead {
     Named(Fields),
     Broken,

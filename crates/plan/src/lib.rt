@@ -21,7 +21,7 @@ const UPDATE: u32 = 203;
 const HIGHEST_FLAG: u32 = 9;
 
 // The records of a body: those of the months from `first` to before `end`, or an update's.
-#[derive(Drop)]
+#[derive(Clone, Copy)]
 pub enum Plan {
     Months { first: u16, end: u16 },
     Update,

@@ -36,7 +36,7 @@ const PARTS_OF_PERCENT: u64 = 60;
 const WIDEST: u64 = 4294967295;
 
 // The settings as a plant keeps them: panel and inverter are capacities in W, the inverter's is P, and minutes is N, the ramp minutes.
-#[derive(Drop)]
+#[derive(Clone, Copy)]
 pub struct Settings {
     pub panel: u32,
     pub inverter: u32,
@@ -44,14 +44,14 @@ pub struct Settings {
 }
 
 // The settings as an installer gives them: wide, so that no value is cut before its range is judged.
-#[derive(Drop)]
+#[derive(Clone, Copy)]
 pub struct GivenSettings {
     pub panel: u64,
     pub inverter: u64,
     pub minutes: u64,
 }
 
-#[derive(Drop)]
+#[derive(Clone, Copy)]
 pub struct Plant {
     pub id: [u8; ID_LENGTH],
     pub mac: [u8; MAC_LENGTH],
@@ -59,7 +59,7 @@ pub struct Plant {
 }
 
 // The answer to install, and the plant where it is accepted; else zeros, which are no valid plant.
-#[derive(Drop)]
+#[derive(Clone, Copy)]
 pub struct Installed {
     pub answer: Answer,
     pub plant: Plant,

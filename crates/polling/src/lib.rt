@@ -27,7 +27,7 @@ const FIRST_WINDOW: u32 = 21 * 3600 + 10 * 60;
 const WINDOW_STEP: u32 = 1800;
 
 // wanted_flag is w, held_flag h, failures k, fixed_at f and update_at u.
-#[derive(Drop)]
+#[derive(Clone, Copy)]
 pub struct Requests {
     pub wanted_flag: u8,
     pub held_flag: u8,

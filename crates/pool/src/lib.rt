@@ -9,7 +9,7 @@ ghost use Rattle.pool.specs.Blocks.{holds, free_count, find_of, take_of, free_af
 use rules::{BLOCK_COUNT, LAST_MONTH, MONTH_COUNT};
 
 // The blocks: bit b of free is set where block b is free, and months[b] is the month of a used block b.
-#[derive(Drop)]
+#[derive(Clone, Copy)]
 pub struct Pool {
     pub months: [u16; BLOCK_COUNT],
     pub free: u16,
@@ -18,19 +18,19 @@ pub struct Pool {
 // The map of blocks that are all free.
 pub const ALL_FREE: u16 = ((1u64 << BLOCK_COUNT) - 1) as u16;
 
-#[derive(Drop)]
+#[derive(Clone, Copy)]
 pub enum Found {
     At(usize),
     Nothing,
 }
 
-#[derive(Drop)]
+#[derive(Clone, Copy)]
 pub enum Place {
     In(usize),
     Full,
 }
 
-#[derive(Drop)]
+#[derive(Clone, Copy)]
 pub struct Taken {
     pub pool: Pool,
     pub place: Place,

@@ -13,7 +13,7 @@ ghost use Rattle.records.specs.Reading.{field_in, record_in, rates_output};
 use rules::{Cause, Format, Written};
 
 // Where in its body the fields of a record begin, and how many rates it has. A 201 or 202 has no flag and no next access: 0.
-#[derive(Drop)]
+#[derive(Clone, Copy)]
 pub struct Places {
     pub schedule: usize,
     pub plant: usize,
@@ -25,14 +25,14 @@ pub struct Places {
     pub next: usize,
 }
 
-#[derive(Drop)]
+#[derive(Clone, Copy)]
 pub enum Located {
     At(Places),
     Refused(Cause),
 }
 
 // A field of a record.
-#[derive(Drop)]
+#[derive(Clone, Copy)]
 pub enum Field {
     Schedule,
     Plant,
@@ -44,7 +44,7 @@ pub enum Field {
 }
 
 // A part of a body: where it begins, and its length.
-#[derive(Drop)]
+#[derive(Clone, Copy)]
 struct Part {
     from: usize,
     size: usize,

@@ -12,7 +12,7 @@ const LONGEST_ANSWER: usize = 4096;
 
 // What was read: how much of the present line stands in the line's buffer, whether it is longer than that, whether more input can come, and
 // whether a read failed.
-#[derive(Drop)]
+#[derive(Clone, Copy)]
 pub(crate) struct Reader {
     pub progress: Progress,
     pub length: usize,

@@ -3,7 +3,7 @@ use plant::GivenSettings;
 use unit::Unit;
 
 // The unit, whether one was installed, how many bytes of the store are lent, and the place in the output behind the last answer.
-#[derive(Drop)]
+#[derive(Clone, Copy)]
 pub(crate) struct Progress {
     pub unit: Unit,
     pub installed: bool,

@@ -13,13 +13,13 @@ pub(crate) const FILE_NAME: [u8; 9] = *b"filename=";
 // How many digits a length has at most.
 const MOST_DIGITS: usize = 6;
 
-#[derive(Drop)]
+#[derive(Clone, Copy)]
 pub(crate) enum Size {
     Bytes(usize),
     NoSize,
 }
 
-#[derive(Drop)]
+#[derive(Clone, Copy)]
 pub(crate) enum Name {
     From(usize),
     NoName,

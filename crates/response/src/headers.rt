@@ -14,7 +14,7 @@ pub(crate) const CONTENT_LENGTH: [u8; SIZE_FROM] = *b"Content-Length: ";
 pub(crate) const CONTENT_DISPOSITION: [u8; 21] = *b"Content-Disposition: ";
 
 // What the lines so far say of one that begins so: no line did, one that stands from `at` to `end`, or more than one.
-#[derive(Drop)]
+#[derive(Clone, Copy)]
 pub(crate) enum Mark {
     Never,
     Once { at: usize, end: usize },
@@ -22,7 +22,7 @@ pub(crate) enum Mark {
 }
 
 // The places of both lines, and the place after the headers; or headers that break the form.
-#[derive(Drop)]
+#[derive(Clone, Copy)]
 pub(crate) enum Headers {
     Both {
         size_at: usize,

@@ -14,7 +14,7 @@ use crate::fields::{Name, Size};
 use crate::headers::Headers;
 
 // The places of name and file, or bytes that break the form (cause 17).
-#[derive(Drop)]
+#[derive(Clone, Copy)]
 pub enum Places {
     Found {
         name_at: usize,

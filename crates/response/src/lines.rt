@@ -9,7 +9,7 @@ pub(crate) const LINE_END_LENGTH: usize = 2;
 pub(crate) const LINE_END: [u8; LINE_END_LENGTH] = *b"\r\n";
 
 // The place of a line's end, or a line that has none.
-#[derive(Drop)]
+#[derive(Clone, Copy)]
 pub(crate) enum Line {
     End(usize),
     Open,

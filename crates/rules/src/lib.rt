@@ -12,7 +12,7 @@ pub use lengths::{
 pub use numbers::{cause_number, format_number};
 
 // Why a call is refused: a case for each number of 01's table, then of 02, in their order.
-#[derive(Drop)]
+#[derive(Clone, Copy)]
 pub enum Cause {
     PlantId,
     Setting,
@@ -34,14 +34,14 @@ pub enum Cause {
 }
 
 // The answer to a call that changes something: tick, clock lost, file taken, response taken, failure reported.
-#[derive(Drop)]
+#[derive(Clone, Copy)]
 pub enum Answer {
     Accepted,
     Refused(Cause),
 }
 
 // The ceiling of a slot: its rate, in percent of C, and the percent of the inverter's capacity.
-#[derive(Drop)]
+#[derive(Clone, Copy)]
 pub enum Ceiling {
     Rated { rate: u8, percent: u8 },
     NoRate,
@@ -49,7 +49,7 @@ pub enum Ceiling {
 }
 
 // What is due: the update schedule, the fixed schedule of a flag, or nothing.
-#[derive(Drop)]
+#[derive(Clone, Copy)]
 pub enum Due {
     Update,
     Fixed(u8),
@@ -58,27 +58,27 @@ pub enum Due {
 }
 
 // The command, in parts: 6,000 × N of them are 100%.
-#[derive(Drop)]
+#[derive(Clone, Copy)]
 pub enum Command {
     Parts(u32),
     Refused(Cause),
 }
 
-#[derive(Drop)]
+#[derive(Clone, Copy)]
 pub enum FreeBlocks {
     Blocks(u32),
     Refused(Cause),
 }
 
 // What a call that fills a lent buffer answers: how many bytes it wrote.
-#[derive(Drop)]
+#[derive(Clone, Copy)]
 pub enum Written {
     Length(usize),
     Refused(Cause),
 }
 
 // What is kept of a file that reads well: what a unit or a lister needs of it.
-#[derive(Drop)]
+#[derive(Clone, Copy)]
 pub struct Summary {
     pub format: Format,
     pub segment: u16,
@@ -91,28 +91,28 @@ pub struct Summary {
 }
 
 // What reading a name and body answers.
-#[derive(Drop)]
+#[derive(Clone, Copy)]
 pub enum Reading {
     Read(Summary),
     Refused(Cause),
 }
 
 // What reading an error file answers: the four digits after the `E` as a number.
-#[derive(Drop)]
+#[derive(Clone, Copy)]
 pub enum ErrorCode {
     Code(u16),
     Refused(Cause),
 }
 
 // The kind of schedule whose request failed.
-#[derive(Drop)]
+#[derive(Clone, Copy)]
 pub enum Kind {
     Update,
     Fixed,
 }
 
 // The format of a file: the yearly, the monthly and the update schedule, and the ID registration.
-#[derive(Drop)]
+#[derive(Clone, Copy)]
 pub enum Format {
     F201,
     F202,

@@ -36,7 +36,7 @@ fn lay(to: &mut [u8], rates: &[u8])
 }
 
 // A pool, and the block that a month has in it.
-#[derive(Drop)]
+#[derive(Clone, Copy)]
 struct Opened {
     pool: Pool,
     block: Found,

@@ -9,7 +9,7 @@ use pool::{Found, Pool};
 use rules::{BLOCK_LENGTH, NO_RATE};
 
 // The rate of a slot, where a file gave one.
-#[derive(Drop)]
+#[derive(Clone, Copy)]
 pub enum StoredRate {
     Rate(u8),
     NoRate,

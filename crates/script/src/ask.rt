@@ -7,7 +7,7 @@ use rules::Kind;
 use script_words::{Number, number_of, word, word_count};
 
 // What is taken: a file by its name and body, or a whole response by its boundary and bytes.
-#[derive(Drop)]
+#[derive(Clone, Copy)]
 pub enum Taken {
     File,
     Response,
@@ -15,7 +15,7 @@ pub enum Taken {
 
 // A call with its numbers; the words that stand for bytes are still to be read. An ID and a MAC, a NAME and a body's digits, a BOUNDARY and a
 // response's digits are words 1 and 2 of their lines, a SEGMENT is word 1.
-#[derive(Drop)]
+#[derive(Clone, Copy)]
 pub enum Ask {
     Nothing,
     Unknown,

@@ -4,7 +4,7 @@ ghost use Rattle.std.proofs.Math.Seq.{paste};
 ghost use Rattle.script_fields.specs.Field.{marked, plain_byte, hex_field, plain_field, bytes_field, digits_field, body_field, field_in, buffer_with};
 
 // How many bytes a word stands for, or that it stands for none.
-#[derive(Drop)]
+#[derive(Clone, Copy)]
 pub enum Field {
     Length(usize),
     Broken,

@@ -6,7 +6,7 @@ use rules::Cause;
 use unit::{Clock, Unit};
 
 // The clock of a unit that may take a file, or why it may not.
-#[derive(Drop)]
+#[derive(Clone, Copy)]
 pub(crate) enum Ready {
     At(u32),
     Refused(Cause),

@@ -21,14 +21,14 @@ use rules::{
 };
 
 // The clock: unset, or at a second.
-#[derive(Drop)]
+#[derive(Clone, Copy)]
 pub enum Clock {
     Unset,
     At(u32),
 }
 
 // A unit. floor is the floor month; command is in parts, of which 6,000 × N are 100%.
-#[derive(Drop)]
+#[derive(Clone, Copy)]
 pub struct Unit {
     pub plant: Plant,
     pub pool: Pool,
@@ -39,45 +39,45 @@ pub struct Unit {
 }
 
 // A unit after a call, and the call's answer.
-#[derive(Drop)]
+#[derive(Clone, Copy)]
 pub struct Done {
     pub unit: Unit,
     pub answer: Answer,
 }
 
 // A unit after a question, and the question's answer: each question has its own.
-#[derive(Drop)]
+#[derive(Clone, Copy)]
 pub struct DueAsked {
     pub unit: Unit,
     pub answer: Due,
 }
 
-#[derive(Drop)]
+#[derive(Clone, Copy)]
 pub struct CeilingAsked {
     pub unit: Unit,
     pub answer: Ceiling,
 }
 
-#[derive(Drop)]
+#[derive(Clone, Copy)]
 pub struct CommandAsked {
     pub unit: Unit,
     pub answer: Command,
 }
 
-#[derive(Drop)]
+#[derive(Clone, Copy)]
 pub struct FreeAsked {
     pub unit: Unit,
     pub answer: FreeBlocks,
 }
 
-#[derive(Drop)]
+#[derive(Clone, Copy)]
 pub struct RequestAsked {
     pub unit: Unit,
     pub answer: Written,
 }
 
 // The answer to install, and the unit where it is accepted; else one that is not sound.
-#[derive(Drop)]
+#[derive(Clone, Copy)]
 pub struct Installed {
     pub answer: Answer,
     pub unit: Unit,
