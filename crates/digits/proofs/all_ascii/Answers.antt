@@ -1,17 +1,32 @@
-use Rattle.std.proofs.Common.{rules, ◌≡◌, ◌≤◌, max, length, ℕ, ◌+◌, ◌-◌, ◌*◌, ◌<◌, ◌/◌, ◌%◌, Bool, true, false, nat_eq, nat_lt, List, [], ◌∷◌, ◌++◌, slice_index_or, slice_set, bit_and, bit_or, Fits, w8, w32, w64, Bor, MutBor}
-use Rattle.rules.specs.Digits.{all_at_most, all_ascii, same_bytes}
-use Rattle.rules.specs.File.{sum}
-use Rattle.digits.specs.Decimal.{decimal_of, ascii_of, rates_sum}
+use Prim.Native.Nat.{◌-◌}
+use mathlib.Core.Path.{◌∙◌, refl, sym}
+use native.Mathlib.Omega.{arith}
+use Rattle.digits.proofs.Scan.{ascii-step, ascii-end}
 use Rattle.digits.proofs.all_ascii.Goals as goal
 
--- src/lib.rt:62:5
 pub loop-i-init : goal.loop-i-init
-loop-i-init c = ?
+loop-i-init c = (omega arith, refl)
 
--- src/lib.rt:62:5
+pub bounds-s-i : goal.bounds-s-i
+bounds-s-i c = omega arith
+
+pub bounds-s-i-in-loop-i : goal.bounds-s-i-in-loop-i
+bounds-s-i-in-loop-i c = omega arith
+
+pub overflow_add-i : goal.overflow_add-i
+overflow_add-i c = omega arith
+
+pub loop-i-smaller : goal.loop-i-smaller
+loop-i-smaller c = omega arith
+
 pub loop-i-preserved : goal.loop-i-preserved
-loop-i-preserved c = ?
+loop-i-preserved c =
+    let a = c.args in
+    let l = c.loop-i in
+    (omega arith, l.invariant.1 ∙ ascii-step a.s.now l.i l.all c.loop-i-test.true)
 
--- src/lib.rt:57:1
 pub returns : goal.returns
-returns c = ?
+returns c =
+    let a = c.args in
+    let l = c.loop-i in
+    sym (l.invariant.1 ∙ ascii-end a.s.now l.i l.all c.loop-i-test.false)

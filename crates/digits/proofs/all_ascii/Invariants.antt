@@ -1,12 +1,12 @@
-use Rattle.std.proofs.Common.{length, ◌-◌, ◌≡◌, ◌≤◌, max, ℕ, ◌+◌, ◌*◌, ◌<◌}
-use Rattle.rules.specs.Digits.{all_at_most, all_ascii, same_bytes}
-use Rattle.rules.specs.File.{sum}
-use Rattle.digits.specs.Decimal.{decimal_of, ascii_of, rates_sum}
+use Prim.Native.Nat.{◌≤◌, ◌-◌}
+use mathlib.Core.Path.{◌≡◌}
+use mathlib.Core.Bool.{◌&&◌}
+use lib.ListN.{length, drop}
+use Rattle.rules.specs.Digits.{all_ascii}
 use Rattle.digits.proofs.all_ascii.Given as goal
 
 abbrev pub invariant-loop-i : goal.invariant-loop-i
-invariant-loop-i l = ?
+invariant-loop-i l = (l.i ≤ length l.s) × (all_ascii l.s ≡ (l.all && all_ascii (drop l.i l.s)))
 
--- proposed from the loop's first test
 abbrev pub decreases-loop-i : goal.decreases-loop-i
 decreases-loop-i l = length l.s - l.i
