@@ -1,0 +1,34 @@
+use Prim.Native.Nat.{◌-◌}
+use mathlib.Core.Path.{◌∙◌, refl, sym}
+use native.Mathlib.Omega.{arith}
+use lib.ListN.{length-set}
+use Rattle.name.proofs.Ascii.{values-step, values-end}
+use Rattle.name.proofs.values.Goals as goal
+
+pub loop-i-init : goal.loop-i-init
+loop-i-init c = (omega arith, c.requires, refl)
+
+pub bounds-ascii-i : goal.bounds-ascii-i
+bounds-ascii-i c = omega arith
+
+pub bounds-to-i : goal.bounds-to-i
+bounds-to-i c = omega arith
+
+pub overflow_add-i : goal.overflow_add-i
+overflow_add-i c = omega arith
+
+pub loop-i-smaller : goal.loop-i-smaller
+loop-i-smaller c = omega arith
+
+pub loop-i-preserved : goal.loop-i-preserved
+loop-i-preserved c =
+    let l = c.loop-i in
+    let ascii = c.args.ascii.now in
+    let step = values-step l.to ascii l.i l.invariant.1 l.invariant.2 c.loop-i-test.true in
+    (omega arith, simp length-set l.invariant.1, rw c.digit.ensures step)
+
+pub shape_of-to : goal.shape_of-to
+shape_of-to c = c.loop-i.invariant.1 ∙ sym c.requires
+
+pub returns : goal.returns
+returns c = let l = c.loop-i in values-end l.to _ l.i l.invariant.1 l.invariant.2 c.loop-i-test.false
