@@ -11,5 +11,8 @@ returns-then-not-is_error_file c = text-refused _ (sym (not-true _ c.if-not-is_e
 pub slice_bounds-result-count-2 : goal.slice_bounds-result-count-2
 slice_bounds-result-count-2 c = omega (arith, (headed _ (sym (not-false _ c.if-not-is_error_file.false-raw) ∙ c.is_error_file.ensures)).room)
 
+pub slice_bounds-result-start-2 : goal.slice_bounds-result-start-2
+slice_bounds-result-start-2 c = omega (arith, (headed _ (sym (not-false _ c.if-not-is_error_file.false-raw) ∙ c.is_error_file.ensures)).room)
+
 pub returns : goal.returns
 returns c = text-given _ (sym (not-false _ c.if-not-is_error_file.false-raw) ∙ c.is_error_file.ensures)

@@ -17,6 +17,12 @@ use Rattle.name.proofs.read_name.Goals as goal
 pub returns-then-not-has_shape : goal.returns-then-not-has_shape
 returns-then-not-has_shape c = sym (ap name_read (unshaped _ (sym c.has_shape.ensures ∙ not-true _ c.if-not-has_shape.true-raw)))
 
+pub slice_bounds-number-end : goal.slice_bounds-number-end
+slice_bounds-number-end c =
+    let text : List ℕ = c.args.name.now in
+    let shape : name_shape (text) ≡ true = sym c.has_shape.ensures ∙ not-false _ c.if-not-has_shape.false-raw in
+    omega (arith, (name-shape _ (shape)).long)
+
 pub number-requires : goal.number-requires
 number-requires c =
     let text : List ℕ = c.args.name.now in
@@ -53,42 +59,32 @@ unfolding format_of
 returns-in-201 c =
     let text : List ℕ = c.args.name.now in
     let shape : name_shape (text) ≡ true = sym c.has_shape.ensures ∙ not-false _ c.if-not-has_shape.false-raw in
-    let as-format : {n : ℕ} {o : Option Format} → c.number.result ≡ n → format_of n ≡ o
-    → parse_name (text) ≡ name_with o (text) = λ e f. parse_as (text) (shape) (ap format_of (sym c.number.ensures ∙ e) ∙ f) in
-    c.read_as.ensures ∙ sym (ap name_read (as-format c.in-201.is refl))
+    c.read_as.ensures ∙ sym (ap name_read (parse_as text shape (ap format_of (sym c.number.ensures ∙ c.in-201.is) ∙ refl)))
 
 pub returns-in-202 : goal.returns-in-202
 unfolding format_of
 returns-in-202 c =
     let text : List ℕ = c.args.name.now in
     let shape : name_shape (text) ≡ true = sym c.has_shape.ensures ∙ not-false _ c.if-not-has_shape.false-raw in
-    let as-format : {n : ℕ} {o : Option Format} → c.number.result ≡ n → format_of n ≡ o
-    → parse_name (text) ≡ name_with o (text) = λ e f. parse_as (text) (shape) (ap format_of (sym c.number.ensures ∙ e) ∙ f) in
-    c.read_as-in-202.ensures ∙ sym (ap name_read (as-format c.in-202.is refl))
+    c.read_as-in-202.ensures ∙ sym (ap name_read (parse_as text shape (ap format_of (sym c.number.ensures ∙ c.in-202.is) ∙ refl)))
 
 pub returns-in-203 : goal.returns-in-203
 unfolding format_of
 returns-in-203 c =
     let text : List ℕ = c.args.name.now in
     let shape : name_shape (text) ≡ true = sym c.has_shape.ensures ∙ not-false _ c.if-not-has_shape.false-raw in
-    let as-format : {n : ℕ} {o : Option Format} → c.number.result ≡ n → format_of n ≡ o
-    → parse_name (text) ≡ name_with o (text) = λ e f. parse_as (text) (shape) (ap format_of (sym c.number.ensures ∙ e) ∙ f) in
-    c.read_as-in-203.ensures ∙ sym (ap name_read (as-format c.in-203.is refl))
+    c.read_as-in-203.ensures ∙ sym (ap name_read (parse_as text shape (ap format_of (sym c.number.ensures ∙ c.in-203.is) ∙ refl)))
 
 pub returns-in-301 : goal.returns-in-301
 unfolding format_of
 returns-in-301 c =
     let text : List ℕ = c.args.name.now in
     let shape : name_shape (text) ≡ true = sym c.has_shape.ensures ∙ not-false _ c.if-not-has_shape.false-raw in
-    let as-format : {n : ℕ} {o : Option Format} → c.number.result ≡ n → format_of n ≡ o
-    → parse_name (text) ≡ name_with o (text) = λ e f. parse_as (text) (shape) (ap format_of (sym c.number.ensures ∙ e) ∙ f) in
-    c.read_as-in-301.ensures ∙ sym (ap name_read (as-format c.in-301.is refl))
+    c.read_as-in-301.ensures ∙ sym (ap name_read (parse_as text shape (ap format_of (sym c.number.ensures ∙ c.in-301.is) ∙ refl)))
 
 pub returns-in_default : goal.returns-in_default
 returns-in_default c =
     let text : List ℕ = c.args.name.now in
     let shape : name_shape (text) ≡ true = sym c.has_shape.ensures ∙ not-false _ c.if-not-has_shape.false-raw in
-    let as-format : {n : ℕ} {o : Option Format} → c.number.result ≡ n → format_of n ≡ o
-    → parse_name (text) ≡ name_with o (text) = λ e f. parse_as (text) (shape) (ap format_of (sym c.number.ensures ∙ e) ∙ f) in
     let r = c.in_default.in_default-own.rest in
-    sym (ap name_read (as-format refl (no-format _ r.0.0.0.1 r.0.0.1 r.0.1 r.1)))
+    sym (ap name_read (parse_as text shape (ap format_of (sym c.number.ensures ∙ refl) ∙ (no-format _ r.0.0.0.1 r.0.0.1 r.0.1 r.1))))

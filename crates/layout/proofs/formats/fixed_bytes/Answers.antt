@@ -7,4 +7,5 @@ pub overflow_mul-result : goal.overflow_mul-result
 overflow_mul-result c = omega (arith, (fixed-is c.args.format c.record_count.ensures c.tail_digits.ensures.exact).1)
 
 pub returns : goal.returns
-returns c = fixed-is c.args.format c.record_count.ensures c.tail_digits.ensures.exact
+returns c = let both = fixed-is c.args.format c.record_count.ensures c.tail_digits.ensures.exact in
+    record { exact = both.0; bound = both.1 }
