@@ -43,6 +43,6 @@ returns-in-At c =
     let at = given.b * block_length + a.from in
     let y = c.lay in
     let room : at + length rates ≤ length store = omega (arith, below, c.requires.0, c.requires.1) in
-    put-part store y.new.0 at (length rates) (ap length y.ensures ∙ bytes-length rates) room
+    put-part store y.new.to at (length rates) (ap length y.ensures ∙ bytes-length rates) room
     ∙ ap (λ (vs : List ℕ). sets store at vs) y.ensures
     ∙ ap (λ (f : Found). laid f a.from rates store) (sym given.is)

@@ -42,7 +42,7 @@ put_month-requires c =
     let can : can_put c.args.slot c.args.rates.now (entry) ≡ true = sym c.can_put.ensures ∙ not-false c.can_put.result c.if-not-can_put.false-raw in
     let long : length c.args.store.now ≡ store_length = let a = c.args in can-long a.floor a.slot a.rates.now (entry) (can) in
     let month : c.month_of_slot-month.result ≤ month_count = omega (arith, c.month_of_slot-month.ensures, slot-month-most c.args.slot) in
-    (c.put_month-first.auto.1.1.1.1.1.0 ∙ long, omega (arith, month))
+    (c.put_month-first.auto.store ∙ long, omega (arith, month))
 
 pub returns : goal.returns
 unfolding can_put
@@ -52,7 +52,7 @@ returns c =
     let a = c.args in
     let n = c.month_of_slot-month in
     let p = c.put_month in
-    let after = stored_of p.result p.new.1.1.1.1.1.0 in
+    let after = stored_of p.result p.new.store in
     let run = run_is a.floor a.slot a.rates.now (entry) n.result _ after n.ensures (can) in
     let r = run c.put_month-first.ensures p.ensures in
     (ap (λ (x : Stored). x.pool) r, ap (λ (x : Stored). x.store) r)

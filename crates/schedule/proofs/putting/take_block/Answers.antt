@@ -34,7 +34,7 @@ pub returns-in-In : goal.returns-in-In
 returns-in-In c =
     let below : c.in-In.b < block_count = let taken = c.take-taken in
     take_below _ _ _ (sym (ap (λ (t : Taken). t.place) taken.ensures) ∙ c.in-In.is) in
-    let long : length c.args.pool.months ≡ block_count = sym (length-map c.args.pool.months (λ (month : ℕ). month)) ∙ c.well_formed.0.1.1.0.1.0.1 in
+    let long : length c.args.pool.months ≡ block_count = c.well_formed.0.1.1.0.1.0.1 in
     let place = c.in-In in
     let b = place.b in
     let t = c.take-taken in
