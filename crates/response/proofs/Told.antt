@@ -1,5 +1,5 @@
 -- What the places that `find` gives say, in the words of its contract and back.
-use Prim.Native.Nat.{ℕ, ◌-◌}
+use Prim.Native.Nat.{ℕ}
 use mathlib.Core.Path.{◌≡◌, refl, sym}
 use mathlib.Core.Bool.{true, ◌&&◌}
 use mathlib.Core.List.{List}
