@@ -6,7 +6,7 @@ import re
 from crates import text_of
 
 HEADER = "include/jagwelu.h"
-SOURCE = "crates/jagwelu/src/*.rt"
+SOURCE = "crates/jagwelu_c/src/*.rt"
 NUMBERS = {"u32": "uint32_t", "u64": "uint64_t", "usize": "size_t"}
 STRUCTS = {
     "HeldUnit": "struct jag_unit",

@@ -11,14 +11,14 @@ from crates import text_of
 from report import end
 
 FILES = {
-    "crates.txt": "small:\nuser: small\njagwelu:\n",
+    "crates.txt": "small:\nuser: small\njagwelu_c staticlib:\n",
     "README.md": """# Small
 
 ## The crates
 
 | Crate | What it is |
 |---|---|
-| `small`, `user`, `jagwelu` | all |
+| `small`, `user`, `jagwelu_c` | all |
 
 ## What is proved
 
@@ -90,7 +90,7 @@ same-zero = refl
     "target/must-fail/small/pair/.log": "/r/small/pair/proofs/Law.antt:7:10: error: `both`: expected type x\nlogic=not-proved\n",
     "target/must-fail/small/zero/.log": "/r/small/zero/specs/Law.antt:9:3: error: `same-zero`: expected type x\nlogic=not-proved\n",
     "target/must-fail/user/f/.log": "fn user::f: not proved\nlogic=not-proved\n",
-    "crates/jagwelu/src/lib.rt": '#[no_mangle]\npub extern "C" fn jag_one(unit: HeldUnit, store: &[u8]) -> Handed {}\n',
+    "crates/jagwelu_c/src/lib.rt": '#[unsafe(no_mangle)]\npub extern "C" fn jag_one(unit: HeldUnit, store: &[u8]) -> Handed {}\n',
     "include/jagwelu.h": "/* uint32_t jag_two(void); */\nstruct jag_done jag_one(struct jag_unit unit, const uint8_t *store,\n    size_t store_length);\n",
     "crates/user/src/lib.rt": "pub fn f() {}\n",
     "crates/user/must-fail/f.edit": "file: src/lib.rt\nold: {}\nnew: { f() }\n",
@@ -102,7 +102,7 @@ EDIT = "crates/small/must-fail/same.edit"
 LOG = "target/must-fail/small/same/.log"
 ROW = "| `crates/small/specs/Words.antt` | what one of x is |\n"
 HEADER = "include/jagwelu.h"
-EXPORTS = "crates/jagwelu/src/lib.rt"
+EXPORTS = "crates/jagwelu_c/src/lib.rt"
 
 # What is spoilt, a word of the failure, and the changes: pairs of file and new text, None for a file removed, or (old, new) within it.
 TRIALS = [

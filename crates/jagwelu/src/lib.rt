@@ -1,4 +1,4 @@
-// What C calls (include/jagwelu.h): the unit's calls over a struct that C holds, and files read and written without a unit.
+// What C calls, by jagwelu_c: the unit's calls over a struct that C holds, and files read and written without a unit.
 #![tactic(auto)]
 
 ghost use Rattle.std.specs.Prelude.{◌≡◌, length};
@@ -29,8 +29,7 @@ use unit::Unit;
 // The bytes of an error file before its text.
 const TEXT_PLACE: usize = 6;
 
-#[unsafe(no_mangle)]
-pub extern "C" fn jag_install(id: &[u8], mac: &[u8], settings: HeldSettings) -> Handed
+pub fn jag_install(id: &[u8], mac: &[u8], settings: HeldSettings) -> Handed
     ensures { result ≡ newly (installed_unit id.now mac.now (settings_in settings)) }
 {
     let given = c_structs::given_settings(settings);
@@ -38,8 +37,7 @@ pub extern "C" fn jag_install(id: &[u8], mac: &[u8], settings: HeldSettings) -> 
     c_structs::hand_new(installed)
 }
 
-#[unsafe(no_mangle)]
-pub extern "C" fn jag_tick(unit: HeldUnit, second: u64, store: &[u8]) -> Handed
+pub fn jag_tick(unit: HeldUnit, second: u64, store: &[u8]) -> Handed
     ensures { result ≡ handed unit (tick_of (opened unit) store.now second) }
 {
     let opened = c_structs::open(unit);
@@ -47,8 +45,7 @@ pub extern "C" fn jag_tick(unit: HeldUnit, second: u64, store: &[u8]) -> Handed
     c_structs::hand(unit, done)
 }
 
-#[unsafe(no_mangle)]
-pub extern "C" fn jag_clock_lost(unit: HeldUnit) -> Handed
+pub fn jag_clock_lost(unit: HeldUnit) -> Handed
     ensures { result ≡ handed unit (lost_of (opened unit)) }
 {
     let opened = c_structs::open(unit);
@@ -56,13 +53,7 @@ pub extern "C" fn jag_clock_lost(unit: HeldUnit) -> Handed
     c_structs::hand(unit, done)
 }
 
-#[unsafe(no_mangle)]
-pub extern "C" fn jag_take_file(
-    unit: HeldUnit,
-    name: &[u8],
-    body: &[u8],
-    store: &mut [u8],
-) -> Handed
+pub fn jag_take_file(unit: HeldUnit, name: &[u8], body: &[u8], store: &mut [u8]) -> Handed
     ensures answer { result ≡ handed unit (take_of (opened unit) store.old name.now body.now) }
     ensures kept { store.new ≡ store_after_take (opened unit) store.old name.now body.now }
 {
@@ -71,8 +62,7 @@ pub extern "C" fn jag_take_file(
     c_structs::hand(unit, done)
 }
 
-#[unsafe(no_mangle)]
-pub extern "C" fn jag_take_response(
+pub fn jag_take_response(
     unit: HeldUnit,
     boundary: &[u8],
     response: &[u8],
@@ -95,22 +85,19 @@ fn failed(unit: HeldUnit, kind: Kind, status: u64) -> Handed
     c_structs::hand(unit, done)
 }
 
-#[unsafe(no_mangle)]
-pub extern "C" fn jag_update_failed(unit: HeldUnit, status: u64) -> Handed
+pub fn jag_update_failed(unit: HeldUnit, status: u64) -> Handed
     ensures { result ≡ handed unit (failure_of (opened unit) KindOf.Update status) }
 {
     failed(unit, Kind::Update, status)
 }
 
-#[unsafe(no_mangle)]
-pub extern "C" fn jag_fixed_failed(unit: HeldUnit, status: u64) -> Handed
+pub fn jag_fixed_failed(unit: HeldUnit, status: u64) -> Handed
     ensures { result ≡ handed unit (failure_of (opened unit) KindOf.Fixed status) }
 {
     failed(unit, Kind::Fixed, status)
 }
 
-#[unsafe(no_mangle)]
-pub extern "C" fn jag_due(unit: HeldUnit) -> DueAnswer
+pub fn jag_due(unit: HeldUnit) -> DueAnswer
     ensures { result ≡ due_numbers (due_of (opened unit)) }
 {
     let opened = c_structs::open(unit);
@@ -119,8 +106,7 @@ pub extern "C" fn jag_due(unit: HeldUnit) -> DueAnswer
     c_answers::due_answer(due)
 }
 
-#[unsafe(no_mangle)]
-pub extern "C" fn jag_ceiling(unit: HeldUnit, slot: u64, store: &[u8]) -> CeilingAnswer
+pub fn jag_ceiling(unit: HeldUnit, slot: u64, store: &[u8]) -> CeilingAnswer
     ensures { result ≡ ceiling_numbers (ceiling_of (opened unit) store.now slot) }
 {
     let opened = c_structs::open(unit);
@@ -129,8 +115,7 @@ pub extern "C" fn jag_ceiling(unit: HeldUnit, slot: u64, store: &[u8]) -> Ceilin
     c_answers::ceiling_answer(ceiling)
 }
 
-#[unsafe(no_mangle)]
-pub extern "C" fn jag_command(unit: HeldUnit) -> Number
+pub fn jag_command(unit: HeldUnit) -> Number
     ensures { result ≡ command_number (command_of (opened unit)) }
 {
     let opened = c_structs::open(unit);
@@ -139,8 +124,7 @@ pub extern "C" fn jag_command(unit: HeldUnit) -> Number
     c_answers::command_number(command)
 }
 
-#[unsafe(no_mangle)]
-pub extern "C" fn jag_free_blocks(unit: HeldUnit) -> Number
+pub fn jag_free_blocks(unit: HeldUnit) -> Number
     ensures { result ≡ blocks_number (free_of (opened unit)) }
 {
     let opened = c_structs::open(unit);
@@ -149,8 +133,7 @@ pub extern "C" fn jag_free_blocks(unit: HeldUnit) -> Number
     c_answers::blocks_number(free)
 }
 
-#[unsafe(no_mangle)]
-pub extern "C" fn jag_check(unit: HeldUnit, store: &[u8]) -> u32
+pub fn jag_check(unit: HeldUnit, store: &[u8]) -> u32
     ensures { result ≡ check_number (opened unit) store.now }
 {
     if store.len() != Unit::STORE_LENGTH {
@@ -165,8 +148,7 @@ pub extern "C" fn jag_check(unit: HeldUnit, store: &[u8]) -> u32
     }
 }
 
-#[unsafe(no_mangle)]
-pub extern "C" fn jag_request(unit: HeldUnit, segment: &[u8], out: &mut [u8]) -> WrittenBytes
+pub fn jag_request(unit: HeldUnit, segment: &[u8], out: &mut [u8]) -> WrittenBytes
     ensures answer { result ≡ written_numbers (written_of (request_of (opened unit) segment.now (length out.old))) }
     ensures buffer { out.new ≡ buffer_after (request_of (opened unit) segment.now (length out.old)) out.old }
 {
@@ -176,8 +158,7 @@ pub extern "C" fn jag_request(unit: HeldUnit, segment: &[u8], out: &mut [u8]) ->
     c_answers::written_bytes(written)
 }
 
-#[unsafe(no_mangle)]
-pub extern "C" fn jag_read(name: &[u8], body: &[u8]) -> FileAnswer
+pub fn jag_read(name: &[u8], body: &[u8]) -> FileAnswer
     ensures { result ≡ file_numbers (reading_of (read_file none name.now body.now)) }
 {
     let reading = transfer::read(name, body);
@@ -185,24 +166,21 @@ pub extern "C" fn jag_read(name: &[u8], body: &[u8]) -> FileAnswer
 }
 
 // For a plant whose ID is given: a file for another is refused with 8.
-#[unsafe(no_mangle)]
-pub extern "C" fn jag_read_for(plant: &[u8], name: &[u8], body: &[u8]) -> FileAnswer
+pub fn jag_read_for(plant: &[u8], name: &[u8], body: &[u8]) -> FileAnswer
     ensures { result ≡ file_numbers (reading_of (read_file (some plant.now) name.now body.now)) }
 {
     let reading = transfer::read_for(plant, name, body);
     c_answers::file_answer(reading)
 }
 
-#[unsafe(no_mangle)]
-pub extern "C" fn jag_record(format: u32, body: &[u8], index: usize) -> RecordPlaces
+pub fn jag_record(format: u32, body: &[u8], index: usize) -> RecordPlaces
     ensures { result ≡ places_numbers (locate_by (format_of format) body.now index) }
 {
     let found = c_bodies::located(format, body, index);
     c_bodies::record_places(found)
 }
 
-#[unsafe(no_mangle)]
-pub extern "C" fn jag_copy_rates(format: u32, body: &[u8], out: &mut [u8]) -> WrittenBytes
+pub fn jag_copy_rates(format: u32, body: &[u8], out: &mut [u8]) -> WrittenBytes
     ensures answer { result ≡ written_numbers (written_of (rates_by (format_of format) body.now (length out.old))) }
     ensures buffer { out.new ≡ buffer_after (rates_by (format_of format) body.now (length out.old)) out.old }
 {
@@ -210,8 +188,7 @@ pub extern "C" fn jag_copy_rates(format: u32, body: &[u8], out: &mut [u8]) -> Wr
     c_answers::written_bytes(written)
 }
 
-#[unsafe(no_mangle)]
-pub extern "C" fn jag_write_body(
+pub fn jag_write_body(
     format: u32,
     plant: &[u8],
     schedule: &[u8],
@@ -228,8 +205,7 @@ pub extern "C" fn jag_write_body(
     c_answers::written_bytes(written)
 }
 
-#[unsafe(no_mangle)]
-pub extern "C" fn jag_error_file(file: &[u8]) -> ErrorAnswer
+pub fn jag_error_file(file: &[u8]) -> ErrorAnswer
     ensures { result ≡ error_numbers (code_of (error_code file.now)) file.now }
 {
     match error_file::error_code(file) {

@@ -2,10 +2,9 @@
 #![tactic(auto)]
 
 ghost use Rattle.std.specs.Prelude.{◌≡◌, ◌≤◌, length};
-ghost use Rattle.io.specs.Counts.{IsPrefixLen};
 ghost use Rattle.listing.specs.Bound.{enough};
 
-use libc::{STDERR_FILENO, STDIN_FILENO, STDOUT_FILENO};
+use std::io::Read;
 
 // 'A name has 55 ASCII bytes'.
 const NAME_LENGTH: usize = 55;
@@ -33,21 +32,27 @@ fn most() -> usize
 }
 
 // Reads standard input to its end, or as many bytes of it. A read that fails is not the end.
-fn read_input(room: &mut [u8], most: usize) -> Input
+fn read_input<R: Read>(input: &mut R, room: &mut [u8], most: usize) -> Input
     requires { most ≤ length room.old }
-    ensures { IsPrefixLen result.count room.new }
+    ensures { result.count ≤ length room.new }
 {
     let mut count = 0;
     while count < most {
-        let got = libc::read(STDIN_FILENO, &mut room[count..most]);
-        let more = io::count(got, &room[count..most]);
-        if more == 0 {
-            return Input {
-                count,
-                failed: got < 0,
-            };
+        match input.read(&mut room[count..most]) {
+            Ok(0) => {
+                return Input {
+                    count,
+                    failed: false,
+                };
+            }
+            Ok(more) => count += more,
+            Err(_) => {
+                return Input {
+                    count,
+                    failed: true,
+                };
+            }
         }
-        count += more;
     }
     Input {
         count,
@@ -55,16 +60,17 @@ fn read_input(room: &mut [u8], most: usize) -> Input
     }
 }
 
-fn main() {
+// A write that fails changes nothing of how the program ends.
+fn main(rt: HostRuntime) {
     let mut room = space();
-    let input = read_input(&mut room, most());
+    let input = read_input(&mut rt.stdin(), &mut room, most());
     if input.failed {
-        io::write_all(STDERR_FILENO, b"lister: standard input could not be read\n");
+        let _ = eprintln!(rt; "lister: standard input could not be read");
         return;
     }
     let count = input.count;
     let line = listing::line_of(&room[..count]);
     let bytes = line.bytes;
     let length = line.length;
-    io::write_all(STDOUT_FILENO, &bytes[..length]);
+    let _ = rt.write_all(&bytes[..length]);
 }

@@ -1,7 +1,6 @@
 // Takes apart the body of 01's example 10 and a 201 of example 3's months, and writes each again: whether fields and bytes are as they were.
 #![tactic(auto)]
 
-use libc::STDOUT_FILENO;
 use records::Field;
 use rules::{Format, Written};
 
@@ -14,12 +13,17 @@ const PLANT: [u8; 26] =
 
 const SCHEDULE: [u8; 10] = *b"\x02\x06\x00\x03\x02\x07\x00\x00\x00\x01";
 
-fn told(what: &[u8], same: bool) {
-    io::write_all(STDOUT_FILENO, what);
+// Writes text; a write that fails changes nothing of how the program ends.
+fn show(rt: &impl Print, text: &[u8]) {
+    let _ = rt.write_all(text);
+}
+
+fn told(rt: &impl Print, what: &[u8], same: bool) {
+    show(rt, what);
     if same {
-        io::write_all(STDOUT_FILENO, b": as it was\n");
+        show(rt, b": as it was\n");
     } else {
-        io::write_all(STDOUT_FILENO, b": not as it was\n");
+        show(rt, b": not as it was\n");
     }
 }
 
@@ -62,48 +66,75 @@ fn is_itself(format: Format, number: u32, flag: u32, body: &[u8]) -> bool {
 }
 
 // Whether a field of record `index` has these bytes.
-fn compare(what: &[u8], field: Field, format: Format, body: &[u8], index: usize, bytes: &[u8]) {
+fn compare(
+    rt: &impl Print,
+    what: &[u8],
+    field: Field,
+    format: Format,
+    body: &[u8],
+    index: usize,
+    bytes: &[u8],
+) {
     told(
+        rt,
         what,
         digits::same(records::field_part(field, format, body, index), bytes),
     );
 }
 
 // Example 10: count 000001, schedule ID 2603270001, X, 202603270930, 00003, rates 100, 40, 28, flag 2, checksum 18, 20260327113000.
-fn update() {
+fn update(rt: &impl Print) {
     let body =
         b"\x00\x00\x00\x00\x00\x01\x02\x06\x00\x03\x02\x07\x00\x00\x00\x01\x01\x02\x03\x04\x05\x06\x07\x08\x09\x00\x01\x02\x03\x04\x05\x06\x07\x08\x09\x00\x01\x02\x03\x04\x05\x05\x02\x00\x02\x06\x00\x03\x02\x07\x00\x09\x03\x00\x00\x00\x00\x00\x03\x64\x28\x1C\x02\x01\x08\x02\x00\x02\x06\x00\x03\x02\x07\x01\x01\x03\x00\x00\x00";
     let start = b"\x02\x00\x02\x06\x00\x03\x02\x07\x00\x09\x03\x00";
     let next = b"\x02\x00\x02\x06\x00\x03\x02\x07\x01\x01\x03\x00\x00\x00";
     let format = Format::F203;
-    compare(b"schedule ID", Field::Schedule, format, body, 0, &SCHEDULE);
-    compare(b"plant ID", Field::Plant, format, body, 0, &PLANT);
-    compare(b"start", Field::Start, format, body, 0, start);
-    compare(b"rates", Field::Rates, format, body, 0, b"\x64\x28\x1C");
-    compare(b"flag", Field::Flag, format, body, 0, b"\x02");
-    compare(b"checksum", Field::Checksum, format, body, 0, b"\x01\x08");
-    compare(b"next access", Field::Next, format, body, 0, next);
-    told(b"body of 203", is_itself(format, 203, 2, body));
+    compare(
+        rt,
+        b"schedule ID",
+        Field::Schedule,
+        format,
+        body,
+        0,
+        &SCHEDULE,
+    );
+    compare(rt, b"plant ID", Field::Plant, format, body, 0, &PLANT);
+    compare(rt, b"start", Field::Start, format, body, 0, start);
+    compare(rt, b"rates", Field::Rates, format, body, 0, b"\x64\x28\x1C");
+    compare(rt, b"flag", Field::Flag, format, body, 0, b"\x02");
+    compare(
+        rt,
+        b"checksum",
+        Field::Checksum,
+        format,
+        body,
+        0,
+        b"\x01\x08",
+    );
+    compare(rt, b"next access", Field::Next, format, body, 0, next);
+    told(rt, b"body of 203", is_itself(format, 203, 2, body));
     told(
+        rt,
         b"body of 203 with another flag",
         is_itself(format, 203, 3, body),
     );
 }
 
 // Example 3: April 2026 to April 2027, 395 days, 19,681 bytes.
-fn year() {
+fn year(rt: &impl Print) {
     let start = b"\x02\x00\x02\x06\x00\x04\x00\x01\x00\x00\x00\x00";
     let last = b"\x02\x00\x02\x07\x00\x04\x00\x01\x00\x00\x00\x00";
     let rates = [55u8; 18960];
     let mut body = [0u8; 19681];
     let written = writer::write_body(201, &PLANT, &SCHEDULE, start, b"", &rates, 0, &mut body);
     match written {
-        Written::Length(n) => told(b"length of 201", n == 19681),
-        Written::Refused(_) => told(b"length of 201", false),
+        Written::Length(n) => told(rt, b"length of 201", n == 19681),
+        Written::Refused(_) => told(rt, b"length of 201", false),
     }
     let format = Format::F201;
-    compare(b"last start", Field::Start, format, &body, 12, last);
+    compare(rt, b"last start", Field::Start, format, &body, 12, last);
     compare(
+        rt,
         b"last schedule ID",
         Field::Schedule,
         format,
@@ -112,6 +143,7 @@ fn year() {
         &SCHEDULE,
     );
     compare(
+        rt,
         b"a fourteenth record",
         Field::Start,
         format,
@@ -119,10 +151,10 @@ fn year() {
         13,
         last,
     );
-    told(b"body of 201", is_itself(format, 201, 0, &body));
+    told(rt, b"body of 201", is_itself(format, 201, 0, &body));
 }
 
-fn main() {
-    update();
-    year();
+fn main(rt: HostRuntime) {
+    update(&rt);
+    year(&rt);
 }

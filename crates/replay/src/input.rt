@@ -3,7 +3,6 @@ ghost use Rattle.std.specs.Prelude.{◌≡◌, ◌+◌, ◌≤◌, min, length};
 
 use crate::progress::Progress;
 use crate::stores::most_of;
-use libc::{STDERR_FILENO, STDOUT_FILENO};
 
 const NEW_LINE: u8 = 10;
 
@@ -67,11 +66,11 @@ impl Reader {
         }
     }
 
-    // With the answers written out.
-    pub(crate) fn flushed(self, out: &[u8]) -> Reader {
+    // With the answers written out. A write that fails changes nothing of how the program goes on.
+    pub(crate) fn flushed(self, rt: &impl Print, out: &[u8]) -> Reader {
         let progress = self.progress;
         let end = most_of(progress.at, out);
-        io::write_all(STDOUT_FILENO, &out[..end]);
+        let _ = rt.write_all(&out[..end]);
         self.with_answers(progress.written(0))
     }
 
@@ -108,11 +107,17 @@ fn answer(was: Reader, line: &[u8], store: &mut [u8], out: &mut [u8]) -> Reader 
 }
 
 // The same, after what was answered is written out where room gets short.
-fn answer_line(was: Reader, line: &[u8], store: &mut [u8], out: &mut [u8]) -> Reader {
+fn answer_line(
+    rt: &impl Print,
+    was: Reader,
+    line: &[u8],
+    store: &mut [u8],
+    out: &mut [u8],
+) -> Reader {
     let progress = was.progress;
     let at = most_of(progress.at, out);
     if out.len() - at < LONGEST_ANSWER {
-        return answer(was.flushed(out), line, store, out);
+        return answer(was.flushed(rt, out), line, store, out);
     }
     answer(was, line, store, out)
 }
@@ -127,6 +132,7 @@ fn behind(end: usize, length: usize) -> usize
 
 // A part of the input up to its first 0A, or all of it where it has none.
 fn take_part(
+    rt: &impl Print,
     was: Reader,
     part: &[u8],
     end: usize,
@@ -138,13 +144,14 @@ fn take_part(
 {
     let gathered = gather(was, &part[..end], line);
     if end < part.len() {
-        return answer_line(gathered, line, store, out);
+        return answer_line(rt, gathered, line, store, out);
     }
     gathered
 }
 
 // A part of the input: each of its lines answered, and the start of the next line gathered.
 pub(crate) fn feed(
+    rt: &impl Print,
     was: Reader,
     part: &[u8],
     line: &mut [u8],
@@ -155,7 +162,7 @@ pub(crate) fn feed(
     let mut rest = part;
     while 0 < rest.len() {
         let end = script_words::place(rest, NEW_LINE);
-        reader = take_part(reader, rest, end, line, store, out);
+        reader = take_part(rt, reader, rest, end, line, store, out);
         let start = behind(end, rest.len());
         rest = &rest[start..];
     }
@@ -163,16 +170,19 @@ pub(crate) fn feed(
 }
 
 // The last line, where it lacks its 0A. After a read that failed what stands in the buffer may be a part of a line: it is not answered.
-pub(crate) fn last(was: Reader, line: &[u8], store: &mut [u8], out: &mut [u8]) -> Reader {
+pub(crate) fn last(
+    rt: &(impl Print + Eprint),
+    was: Reader,
+    line: &[u8],
+    store: &mut [u8],
+    out: &mut [u8],
+) -> Reader {
     if was.failed {
-        io::write_all(
-            STDERR_FILENO,
-            b"replay: standard input could not be read to its end\n",
-        );
+        let _ = eprintln!(rt; "replay: standard input could not be read to its end");
         return was;
     }
     if (0 < was.length) | was.over {
-        return answer_line(was, line, store, out);
+        return answer_line(rt, was, line, store, out);
     }
     was
 }

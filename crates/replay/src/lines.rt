@@ -1,6 +1,6 @@
 // A line's call: carried out on the unit and the store, and answered.
 use crate::progress::Progress;
-use crate::stores::most_of;
+use crate::stores::{large_buffer, most_of};
 use crate::{answers, shown, stores};
 use calls::Call;
 use plant::GivenSettings;
@@ -50,8 +50,8 @@ fn install(was: Progress, id: &[u8], mac: &[u8], given: GivenSettings, out: &mut
 }
 
 fn install_line(was: Progress, line: &[u8], given: GivenSettings, out: &mut [u8]) -> Progress {
-    let mut id = io::large_buffer();
-    let mut mac = io::large_buffer();
+    let mut id = large_buffer();
+    let mut mac = large_buffer();
     let Field::Length(long) = script_fields::digits_of(script_words::word(line, 1), &mut id) else {
         return was.says(b"unknown", out);
     };
@@ -79,8 +79,8 @@ fn take_line(
     store: &mut [u8],
     out: &mut [u8],
 ) -> Progress {
-    let mut label = io::large_buffer();
-    let mut bytes = io::large_buffer();
+    let mut label = large_buffer();
+    let mut bytes = large_buffer();
     let Field::Length(long) = script_fields::bytes_of(script_words::word(line, 1), &mut label)
     else {
         return was.says(b"unknown", out);
@@ -105,7 +105,7 @@ fn take_line(
 }
 
 fn request_line(was: Progress, line: &[u8], out: &mut [u8]) -> Progress {
-    let mut segment = io::large_buffer();
+    let mut segment = large_buffer();
     let Field::Length(long) = script_fields::bytes_of(script_words::word(line, 1), &mut segment)
     else {
         return was.says(b"unknown", out);

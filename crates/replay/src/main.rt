@@ -11,18 +11,26 @@ mod shown;
 mod stores;
 
 use input::Reader;
-use libc::STDIN_FILENO;
+use std::io::Read;
 
 // One read, answered line by line; what is answered goes out before the next read, so that a reader at a terminal sees it.
-fn turn(was: Reader, line: &mut [u8], store: &mut [u8], out: &mut [u8]) -> Reader {
-    let mut chunk = io::large_buffer();
-    let got = libc::read(STDIN_FILENO, &mut chunk);
-    let count = io::count(got, &chunk);
-    if count == 0 {
-        return was.ended(got < 0);
+fn turn(
+    rt: &impl Print,
+    input: &mut impl Read,
+    was: Reader,
+    line: &mut [u8],
+    store: &mut [u8],
+    out: &mut [u8],
+) -> Reader {
+    let mut chunk = stores::large_buffer();
+    match input.read(&mut chunk) {
+        Ok(0) => was.ended(false),
+        Ok(count) => {
+            let read = input::feed(rt, was, &chunk[..count], line, store, out);
+            read.flushed(rt, out)
+        }
+        Err(_) => was.ended(true),
     }
-    let read = input::feed(was, &chunk[..count], line, store, out);
-    read.flushed(out)
 }
 
 // The turns that are left: none once the input has ended.
@@ -34,21 +42,27 @@ fn turns_left(turns: u64, open: bool) -> u64
 }
 
 // A proved loop has to end, and nothing says that an input does: the turns are counted down from a number that no run uses up.
-fn replay(line: &mut [u8], store: &mut [u8], out: &mut [u8]) {
+fn replay(
+    rt: &(impl Print + Eprint),
+    input: &mut impl Read,
+    line: &mut [u8],
+    store: &mut [u8],
+    out: &mut [u8],
+) {
     let mut reader = Reader::new();
     let mut turns = u64::MAX;
     while 0 < turns {
-        reader = turn(reader, line, store, out);
+        reader = turn(rt, input, reader, line, store, out);
         turns = turns_left(turns, reader.open);
     }
-    let last = input::last(reader, line, store, out);
-    last.flushed(out);
+    let last = input::last(rt, reader, line, store, out);
+    last.flushed(rt, out);
 }
 
 // The buffers: 65,536 bytes for a line and for answers, and the longest store.
-fn main() {
-    let mut line = io::large_buffer();
+fn main(rt: HostRuntime) {
+    let mut line = stores::large_buffer();
     let mut store = stores::longest_store();
-    let mut out = io::large_buffer();
-    replay(&mut line, &mut store, &mut out);
+    let mut out = stores::large_buffer();
+    replay(&rt, &mut rt.stdin(), &mut line, &mut store, &mut out);
 }

@@ -1,10 +1,17 @@
-// The lent store: its length, its bytes, and one of them spoilt.
-ghost use Rattle.io.specs.Counts.{IsPrefixLen};
+// The buffers, and the lent store: its length, its bytes, and one of them spoilt.
+ghost use Rattle.std.specs.Prelude.{◌≡◌, ◌≤◌, min, length};
 
 use crate::progress::Progress;
 
 // 'a store of LENGTH bytes, at most 32768'.
 const LONGEST_STORE: usize = 32768;
+
+// Room for a line, and for answers.
+const ROOM: usize = 65536;
+
+pub(crate) fn large_buffer() -> [u8; ROOM] {
+    [0u8; ROOM]
+}
 
 // Room for the longest store.
 pub(crate) fn longest_store() -> [u8; LONGEST_STORE] {
@@ -13,7 +20,8 @@ pub(crate) fn longest_store() -> [u8; LONGEST_STORE] {
 
 // So many bytes, or as many as there are.
 pub(crate) fn most_of(count: usize, s: &[u8]) -> usize
-    ensures { IsPrefixLen result s.now }
+    ensures bound { result ≤ length s.now }
+    ensures value { result ≡ min count (length s.now) }
 {
     if count < s.len() { count } else { s.len() }
 }
