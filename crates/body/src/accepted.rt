@@ -74,9 +74,9 @@ fn access_at(format: Format, s: &[u8]) -> u32
 
 // The rates are what `s` has beside the other fields of its records.
 pub(crate) fn schedule_summary(format: Format, segment: u16, s: &[u8]) -> Summary
-    requires format_value { is_schedule format ≡ true }
-    requires s_value { shaped format (count_of format) s.now ≡ true }
-    requires s_value_2 { record_dates (name_of format segment []) format (records_from format (count_of format) s.now) ≡ true }
+    requires scheduled { is_schedule format ≡ true }
+    requires formed { shaped format (count_of format) s.now ≡ true }
+    requires dated { record_dates (name_of format segment []) format (records_from format (count_of format) s.now) ≡ true }
     ensures { result ≡ summary_of (schedule_file format segment [] (records_from format (count_of format) s.now)) }
 {
     let rates = s.len() - layout::fixed_bytes(format);

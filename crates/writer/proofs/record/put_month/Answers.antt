@@ -1,0 +1,9 @@
+-- `record::put_month` meets its contract.
+use Rattle.writer.proofs.Records.{month-placed}
+use Rattle.writer.proofs.record.put_month.Goals as goal
+
+pub returns : goal.returns
+returns c =
+    let a = c.args in
+    month-placed a.out.now a.schedule.now a.plant.now c.month_start-start.result a.rates.now a.at a.month c.requires
+    c.month_start-start.ensures c.checksum-sum.ensures c.put_head.ensures c.put_number.ensures
