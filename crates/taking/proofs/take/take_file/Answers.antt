@@ -1,0 +1,15 @@
+-- `take::take_file` meets its contract.
+use mathlib.Core.Path.{sym, ◌∙◌}
+use Rattle.taking.proofs.ReadyLaws.{unready, checked}
+use Rattle.taking.proofs.take.take_file.Goals as goal
+
+pub take_checked-requires : goal.take_checked-requires
+take_checked-requires c = checked _ _ _ (sym c.check.ensures ∙ c.in-At.is)
+
+pub returns-in-Refused : goal.returns-in-Refused
+returns-in-Refused c =
+    let r = unready _ _ _ (sym c.check.ensures ∙ c.in-Refused.is) _ in
+    record { answer = c.refuse.ensures ∙ r.0; kept = r.1 }
+
+pub returns-in-At : goal.returns-in-At
+returns-in-At c = record { answer = c.take_checked.ensures.answer; kept = c.take_checked.ensures.kept }
