@@ -1,6 +1,7 @@
 """After the proofs: every must-fail edit was refused, and at a fact. A refusal because a name is gone, or because the edited definition
 itself makes no sense, shows nothing; and an edit that names a statement or a law must have broken its proof. `rt ci` has one line for each
-edit, with the first error that is more than a name that is gone, cut at 160 characters; scripts/test keeps its words."""
+edit, with the first error that is more than a name that is gone, cut at 160 characters; scripts/test keeps its words. Where that error is of
+another proof, which the prover comes to first, tests/refused_elsewhere.txt names it: scripts/refusal showed that the named one is refused too."""
 import os
 import re
 import sys
@@ -12,6 +13,7 @@ from edits import edits
 from report import end
 
 SAID = "target/proofs.log"
+ELSEWHERE = "tests/refused_elsewhere.txt"
 LINE = re.compile(r"rt: must-fail (\w+)/([\w.-]+)\.edit: (.*)")
 REFUSED = "refused, as it must be"
 # rt's own words for the two refusals that say little, and what an error says where a name is gone
@@ -21,7 +23,9 @@ GONE = re.compile(r"that can be named from here|is not in scope|has no field|is 
 
 def checks():
     said = {(crate, label): words for crate, label, words in LINE.findall(read(SAID))}
-    stated, files = crates.statements(), uses.every_file()
+    stated, files, told = crates.statements(), uses.every_file(), elsewhere()
+    for label in sorted(set(told) - {f"{edit.crate}/{edit.label}" for edit in edits()}):
+        yield f"{ELSEWHERE} names {label}, which is no edit", False
     for edit in edits():
         words = said.get((edit.crate, edit.label), "nothing was said")
         refused = words.startswith(REFUSED)
@@ -40,12 +44,18 @@ def checks():
         file, broken = f"crates/{edit.crate}/{at[0]}", at[1]
         yield f"{edit.path} makes no sense: {fact}", not senseless(edit, file, broken)
         for name, proofs in broken_by(edit, stated):
-            found = any(rests_on(proof, file, broken, files) for proof in proofs)
+            found = any(rests_on(proof, file, broken, files) for proof in proofs) or told.get(f"{edit.crate}/{edit.label}") == broken
             yield f"{edit.path} names {name}, and what was refused is no part of its proof: {fact}", found
 
 
 def read(path):
     return crates.text_of(path) if os.path.isfile(path) else ""
+
+
+def elsewhere():
+    """The edits whose refusal is told at another proof, each with that proof."""
+    lines = [line.split() for line in read(ELSEWHERE).split("\n") if line and not line.startswith("#")]
+    return {words[0]: words[-1] for words in lines}
 
 
 def place(fact):

@@ -117,6 +117,7 @@ LAW = "crates/small/specs/Law.antt"
 PROOF = "crates/small/proofs/Law.antt"
 EDIT = "crates/small/must-fail/same.edit"
 LOG = "target/proofs.log"
+ELSEWHERE = "tests/refused_elsewhere.txt"
 REFUSED = "same.edit: refused, as it must be"
 ROW = "| `crates/small/specs/Words.antt` | what one of x is |\n"
 HEADER = "include/jagwelu.h"
@@ -219,6 +220,8 @@ TRIALS = [
     ("an edit that has no sense", "makes no sense", [(LOG, ("./proofs/Law.antt:4:10: error: `same`", "./specs/Law.antt:5:10: error: `Same`"))]),
     ("an edit that cannot be read", "makes no sense", [(LOG, ("./proofs/Law.antt:4:10: error: `same`", "./specs/Law.antt:5:10: error: a line"))]),
     ("a refusal of another proof", "names Same, and what was refused is no part", [(LOG, ("`same`", "`both`"))]),
+    ("a refusal of a third proof", "names Same, and what was refused is no part", [(LOG, ("`same`", "`both`")), (ELSEWHERE, "small/same zero_self\n")]),
+    ("a refusal told elsewhere of an edit that is not there", "names small/gone, which is no edit", [(ELSEWHERE, "small/gone both\n")]),
     ("a refusal of another law", "names same-zero, and what was refused is no part", [(LOG, ("`zero_self`", "`both`"))]),
     ("a name in the auditor's page that is not there", "names Twice, which", [("docs/AUDIT.md", ("# Audit", "# Audit\n\n`Twice`"))]),
     ("an edit whose texts are the same", "are the same", [(EDIT, ("new: one x ≡ x", "new: one x ≡ one x"))]),
@@ -231,6 +234,7 @@ GOOD = [
     ("a file that is set aside", [("crates/small/specs/Later.antt.txt", "x\n"), ("crates/small/must-fail/later.edit.txt", "x\n")]),
     ("what rt makes", [("crates/small/out/rlib/Law.antt", "{-\n"), ("crates/later/out/x", "x\n"), ("crates/later/src/lib.rt.txt", "x\n")]),
     ("a function and a crate named in the index", [("docs/STATEMENTS.md", ("`same-zero`", "`same-zero`, `jag_one` and `jagwelu_c`"))]),
+    ("a refusal told at another proof", [(LOG, ("`same`", "`both`")), (ELSEWHERE, "# none\nsmall/same both\n")]),
     ("a function's contract refused first", [(LOG, ("./proofs/Law.antt:4:10: error: `same`", "note: src/lib.rt:1:1: it is not proved that"))]),
 ]
 
