@@ -69,7 +69,7 @@ else
     failed=$((failed + 1))
 fi
 
-# the input that `rt check` runs the lister on is example 10
+# the input that `rt ci` runs the lister on is example 10
 if cmp -s crates/lister/stdin "$folder/example-10.input"; then
     passed=$((passed + 1))
 else

@@ -18,7 +18,23 @@ def bare(text):
 
 
 def names():
-    return sorted(os.path.basename(folder.rstrip("/")) for folder in glob.glob("crates/*/"))
+    """The crates by name: the folders of crates/, but for those that are set aside."""
+    return sorted(os.path.basename(folder.rstrip("/")) for folder in glob.glob("crates/*/") if not set_aside(folder))
+
+
+def files(folder="crates"):
+    """The files below a folder, but for what `rt` makes in a crate's out/."""
+    for at, folders, found in os.walk(folder.rstrip("/")):
+        if at.count("/") == 1 and "out" in folders:
+            folders.remove("out")
+        for name in found:
+            yield os.path.join(at, name)
+
+
+def set_aside(folder):
+    """Whether a folder holds files, and each ends in .txt: a crate that is still to come, which no check reads."""
+    found = list(files(folder))
+    return bool(found) and all(path.endswith(".txt") for path in found)
 
 
 def blocks(path):
@@ -111,7 +127,7 @@ def proofs_of(statement):
     found = []
     module = statement.file[len(f"crates/{statement.crate}/specs/") : -len(".antt")].replace("/", ".")
     for path in declared(statement.crate, "proofs"):
-        if not brings_in(path, f"Rattle·{statement.crate}·specs.specs.{module}", statement.name):
+        if not brings_in(path, f"Rattle.{statement.crate}.specs.{module}", statement.name):
             continue
         parts = blocks(path)
         for name, _, text in parts:
@@ -126,8 +142,10 @@ def proofs_of(statement):
 def imports(path):
     """The crates' own files that a file of definitions takes words from, and what of its imports is not understood."""
     files, unknown = set(), []
-    for used in re.findall(r"^(?:pub )?use (Rattle·[^\s{]+)", bare(text_of(path)), re.M):
-        where = re.fullmatch(r"Rattle·(\w+?)(?:·\w+)?\.(specs|proofs)\.(\S+?)\.?", used)
+    for used in re.findall(r"^(?:pub )?use (Rattle\.[^\s{]+)", bare(text_of(path)), re.M):
+        if used.startswith("Rattle.std."):
+            continue
+        where = re.fullmatch(r"Rattle\.(\w+)\.(specs|proofs)\.(\S+?)\.?", used)
         find = {"specs": file_of, "proofs": source_of}
         file = find[where.group(2)](where.group(1), where.group(3).split(".")) if where else None
         if file:
@@ -138,10 +156,12 @@ def imports(path):
 
 
 def file_of(crate, words):
-    """The file of a module: a file of specs/, or for a declared type the file of src/ that declares it."""
-    if words[0] == "declared":
-        kind = next((word for word in words[1:] if word[0].isupper()), "")
-        return source_with(crate, rf"\b(?:struct|enum) {re.escape(kind)}\b")
+    """The file of a module: a file of specs/, or for a declared type or a contract the file of src/ that has it."""
+    kind = next((word for word in words[1:] if word[0].isupper()), None)
+    if words[0] == "contracts" and (kind is None or kind.startswith("The")):
+        return source_of(crate, words[1:])
+    if words[0] in ("declared", "contracts"):
+        return source_with(crate, rf"\b(?:struct|enum) {re.escape(kind or '')}\b")
     for count in range(len(words), 0, -1):
         path = f"crates/{crate}/specs/{'/'.join(words[:count])}.antt"
         if os.path.exists(path):
@@ -150,9 +170,9 @@ def file_of(crate, words):
 
 
 def source_of(crate, words):
-    """The file of src/ with the function whose contract is meant: `proofs.F` has its parameters, `proofs.F.Reads` what it says."""
-    name = words[-2] if words[-1] == "Reads" and len(words) > 1 else words[-1]
-    return source_with(crate, rf"\bfn {re.escape(name)}\b")
+    """The file of src/ with the function whose contract is meant: `contracts.F` has its parameters, `proofs.F.Reads` what it says."""
+    name = next((word for word in reversed(words) if word[0].islower()), "")
+    return source_with(crate, rf"\bfn {re.escape(name)}\b") if name else None
 
 
 def source_with(crate, pattern):

@@ -1,5 +1,6 @@
 """The header has the exported functions and no others, each with the source's parameters: a pointer is const exactly where the source lends
-`&` and not `&mut`, so that what a call may write is said in both."""
+`&` and not `&mut`, so that what a call may write is said in both. And what C calls has the parameters and clauses of the function of that name in the
+library, which the theorems speak of."""
 import glob
 import re
 
@@ -7,6 +8,7 @@ from crates import text_of
 
 HEADER = "include/jagwelu.h"
 SOURCE = "crates/jagwelu_c/src/*.rt"
+LIBRARY = "crates/jagwelu/src/*.rt"
 NUMBERS = {"u32": "uint32_t", "u64": "uint64_t", "usize": "size_t"}
 STRUCTS = {
     "HeldUnit": "struct jag_unit",
@@ -41,6 +43,18 @@ def exported():
     return found
 
 
+def promised(source):
+    """The functions of a crate that C may call: parameters, result and clauses of each, and where the clauses' words are from."""
+    found, words = {}, set()
+    for path in sorted(glob.glob(source)):
+        text = re.sub(r"(^|\s)//.*", r"\1", text_of(path))
+        for name, rest in re.findall(r"\bfn (jag_\w+)(\(.*?)(?=\n\{|\{\n)", text, re.S):
+            found[name] = re.sub(r",? ?\)", ")", " ".join(rest.replace("(", "( ").split()))
+        for module, listed in re.findall(r"^ghost use ([^;{]+?)\.?(?:\{([^}]*)\})?;", text, re.M):
+            words |= {(module, word.strip()) for word in listed.split(",")}
+    return found, words
+
+
 def declared():
     """The functions of the header, each on one line."""
     bare = re.sub(r"/\*.*?\*/", "", text_of(HEADER), flags=re.S)
@@ -53,3 +67,8 @@ def checks():
     yield f"{SOURCE} exports no function", bool(here)
     for name in sorted(set(here) | set(there)):
         yield f"{HEADER} has `{there.get(name)}`, the source `{here.get(name)}`", here.get(name) == there.get(name)
+    (calls, words), (library, known) = promised(SOURCE), promised(LIBRARY)
+    for name in sorted(here):
+        yield f"{SOURCE} promises `{calls.get(name)}` of {name}, {LIBRARY} `{library.get(name)}`", name in calls and calls[name] == library.get(name)
+    for module, word in sorted(words - known):
+        yield f"{SOURCE} takes {word} from {module}, and {LIBRARY} does not", False

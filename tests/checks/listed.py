@@ -10,7 +10,7 @@ def checks():
     cells = re.findall(r"^\| (`[^|]*`) \|", table, re.M)
     written = [name for cell in cells for name in pages.quoted(cell)]
     lines = [line.split("#")[0] for line in crates.text_of("crates.txt").split("\n")]
-    built = [line.split(":")[0].split()[0] for line in lines if ":" in line]
+    built = [line.split(":")[0].split()[0] for line in lines if line.split(":")[0].strip() and ":" in line]
     yield f"{pages.README} has no table of crates", bool(written)
     for name in sorted(set(written) | set(built) | set(crates.names())):
         yield f"crate {name} is not in the table of {pages.README}", name in written

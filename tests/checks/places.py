@@ -13,24 +13,22 @@ PLACES = (
     r"specs/(?:\w+/)*\w+\.antt",
     r"proofs/(?:[\w+]+/)*\w+\.antt",
     r"must-fail/\w+\.edit",
-    r"stdin|stdout|args",
+    r"stdin|stdout|args|status",
     r"data/.+",
 )
 
 
-def files():
-    for folder, _, names in os.walk("crates"):
-        for name in names:
-            yield os.path.join(folder, name)
+# A file of a place that is still to come has its own name and .txt: no check reads it.
+ASIDE = r"(?:(?:src|specs|proofs|must-fail)/.*\.(?:rt|antt|edit)\.txt)"
 
 
 def placed(path):
     parts = path.split("/", 2)
-    return len(parts) == 3 and not os.path.islink(path) and any(re.fullmatch(place, parts[2]) for place in PLACES)
+    return len(parts) == 3 and not os.path.islink(path) and any(re.fullmatch(place, parts[2]) for place in (*PLACES, ASIDE))
 
 
 def checks():
-    for path in sorted(files()):
+    for path in sorted(crates.files()):
         yield f"{path} has no place in a crate", placed(path)
         if path.endswith((".antt", ".rt")):
             yield f"{path} has a comment in braces, which hides its text from the prover and not from the checks", "{-" not in crates.text_of(path)

@@ -63,12 +63,25 @@ def edits_it(edit, statement):
 
 
 def laws(named):
-    """The laws that the index names, in small letters, each with the files named beside it."""
+    """The laws that the index names, in small letters, each with the files named beside it. A name of a function, of a crate or of a definition
+    that is no law looks the same where it has no dash."""
+    plain = others()
     for item in pages.items(named):
         words = pages.quoted(item)
         files = [word for word in words if re.fullmatch(r"crates/\w+/(?:specs|proofs)/\S+\.antt", word)]
-        for law in [word for word in words if re.fullmatch(r"[a-z0-9]+(?:-[a-z0-9]+)+", word)]:
+        for law in [word for word in words if re.fullmatch(r"[a-z0-9]+(?:[-_][a-z0-9]+)+", word) and word not in plain]:
             yield law, files
+
+
+def others():
+    """The functions, the crates, and the definitions of specs/ whose type has no equality."""
+    found = set(crates.names())
+    for path in crates.files():
+        if path.endswith(".rt"):
+            found.update(re.findall(r"\bfn (\w+)", crates.text_of(path)))
+    for path in crates.definitions():
+        found.update(name for name, _, text in crates.blocks(path) if re.match(r"(?:\w+ )*\S+ :[^≡]*$", text))
+    return found
 
 
 def is_law(law, file):
@@ -77,6 +90,6 @@ def is_law(law, file):
 
 
 def named_laws(crate):
-    """The laws of a crate that the index names."""
+    """The laws of a crate that the index names, each with its file."""
     found = laws(pages.section(pages.INDEX, "What is proved"))
-    return [law for law, files in found for file in files if file.split("/")[1] == crate and is_law(law, file)]
+    return [(law, file) for law, files in found for file in files if file.split("/")[1] == crate and is_law(law, file)]

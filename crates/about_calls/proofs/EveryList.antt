@@ -18,7 +18,7 @@ use Rattle.about_calls.specs.Theorem.{fresh, told, EveryList}
 use Rattle.about_calls.proofs.Options.{test-same, test_other}
 use Rattle.about_calls.proofs.Follows.{Kept, agrees, apart, Follows, follows-holds}
 use Rattle.about_calls.proofs.Steps.{Sim, w, lost-step, command-step, free_step, due-step, failure-step, tick-step, ceiling-step}
-use Rattle.about_calls.proofs.Taking.{take_step, response-step}
+use Rattle.about_calls.proofs.Taking.{take_step_lem, response-step}
 
 module _ (p : Plant) (valid : valid_plant p ≡ true) where
   -- the fresh unit follows the fresh machine
@@ -49,7 +49,7 @@ module _ (p : Plant) (valid : valid_plant p ≡ true) where
   pub call_step : (n : ℕ) (s : State) (M : Machine) → Follows p n s M → (c : Call) → Sim p n (step c s) (machine_step (w p valid n) c M)
   call_step n s M h (tick t) = tick-step p valid n s M h t
   call_step n s M h clock_lost = lost-step p valid n s M h
-  call_step n s M h (file_taken name body) = take_step p valid n s M h name body
+  call_step n s M h (file_taken name body) = take_step_lem p valid n s M h name body
   call_step n s M h (response_taken boundary bytes) = response-step p valid n s M h boundary bytes
   call_step n s M h (failure kind status) = failure-step p valid n s M h kind status
   call_step n s M h due = due-step p valid n s M h
