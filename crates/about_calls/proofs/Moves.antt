@@ -71,7 +71,7 @@ free-before p q k b l e = go (is_free p b) refl
 
 adds_then : (p q r : Pool) → Adds p q → Adds q r → Adds p r
 adds_then p q r a c = record {
-  kept = record { long = c.kept.long; kept = λ m b i. c.kept.auto m b (a.kept.kept m b i) };
+  kept = record { long = c.kept.long; kept = λ m b i. c.kept.kept m b (a.kept.kept m b i) };
   from = λ m b i. ⊎_elim (λ j. a.from m b j) (λ e. inr (free-before p q a.kept b i.below e)) (c.from m b i);
 }
 
