@@ -9,18 +9,18 @@ pub returns-then-is_silent : goal.returns-then-is_silent
 returns-then-is_silent c = sym (nothing-asked c.args.line.now (sym c.is_silent.ensures ∙ c.if-is_silent.true))
 
 pub returns-then-count-eq1 : goal.returns-then-count-eq1
-returns-then-count-eq1 c = c.ask_one.ensures ∙ ap ask_one c.word.ensures ∙ sym (one_word _ _ (loud ⟦After-word_count⟧) (counted ⟦After-word_count⟧) c.if-count-eq1.true)
+returns-then-count-eq1 c = c.ask_one.ensures ∙ ap ask_one c.word.ensures ∙ sym (one_word _ _ (sym c.is_silent.ensures ∙ c.if-is_silent.false) c.word_count-count.ensures c.if-count-eq1.true)
 
 pub returns-then-count-eq2 : goal.returns-then-count-eq2
-returns-then-count-eq2 c = c.ask_two.ensures ∙ (cc) ∙ sym (two_words _ _ (loud ⟦After-word_count⟧) (counted ⟦After-word_count⟧) c.if-count-eq1.false c.if-count-eq2.true)
+returns-then-count-eq2 c = c.ask_two.ensures ∙ (cc) ∙ sym (two_words _ _ (sym c.is_silent.ensures ∙ c.if-is_silent.false) c.word_count-count.ensures c.if-count-eq1.false c.if-count-eq2.true)
 
 pub returns-then-count-eq3 : goal.returns-then-count-eq3
-returns-then-count-eq3 c = c.ask_three.ensures ∙ (cc) ∙ sym (three_words _ _ (loud ⟦After-word_count⟧) (counted ⟦After-word_count⟧) c.if-count-eq1.false c.if-count-eq2.false c.if-count-eq3.true)
+returns-then-count-eq3 c = c.ask_three.ensures ∙ (cc) ∙ sym (three_words _ _ (sym c.is_silent.ensures ∙ c.if-is_silent.false) c.word_count-count.ensures c.if-count-eq1.false c.if-count-eq2.false c.if-count-eq3.true)
 
 pub returns-then-count-eq6 : goal.returns-then-count-eq6
 returns-then-count-eq6 c =
     c.ask_six.ensures ∙ (cc)
-    ∙ sym (six_words _ _ (loud ⟦After-word_count⟧) (counted ⟦After-word_count⟧) c.if-count-eq1.false c.if-count-eq2.false c.if-count-eq3.false c.if-count-eq6.true)
+    ∙ sym (six_words _ _ (sym c.is_silent.ensures ∙ c.if-is_silent.false) c.word_count-count.ensures c.if-count-eq1.false c.if-count-eq2.false c.if-count-eq3.false c.if-count-eq6.true)
 
 pub returns : goal.returns
-returns c = sym (other-count _ _ (loud ⟦After-word_count⟧) (counted ⟦After-word_count⟧) c.if-count-eq1.false c.if-count-eq2.false c.if-count-eq3.false c.if-count-eq6.false)
+returns c = sym (other-count _ _ (sym c.is_silent.ensures ∙ c.if-is_silent.false) c.word_count-count.ensures c.if-count-eq1.false c.if-count-eq2.false c.if-count-eq3.false c.if-count-eq6.false)
