@@ -25,7 +25,7 @@ use Rattle.laws.proofs.Facts.{digits_of}
 use Rattle.about_files.specs.Reading.{Rules}
 use Rattle.about_files.specs.Writing.{NameFor, Carries, file_for, WrittenReads, first_start}
 use Rattle.about_files.proofs.Numerals.{decimal-digits}
-use Rattle.about_files.proofs.Record.{Form, facts-form}
+use Rattle.about_files.proofs.Record.{facts-form}
 use Rattle.about_files.proofs.Name.{format-number}
 use Rattle.about_files.proofs.Body.{facts-schedule}
 use Rattle.about_files.proofs.Calendar.{slots_from, slots-between}

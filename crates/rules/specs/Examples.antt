@@ -1,25 +1,11 @@
 -- The starred bench examples of 01, as one table: what the definitions compute, and what 01 states.
-use Rattle.std.specs.Prelude.{ℕ, zero, suc, ◌+◌, ◌-◌, ◌*◌, ◌≡◌, refl, Bool, true, false, cond, ◌&&◌, List, [], ◌∷◌, ◌++◌, length, take, replicate, eqb}
+use Rattle.std.specs.Prelude.{ℕ, zero, suc, ◌+◌, ◌-◌, ◌*◌, ◌≡◌, refl, Bool, true, ◌&&◌, List, [], ◌∷◌, ◌++◌, length, take, replicate, eqb}
 use Rattle.std.proofs.Math.Option.{none}
 use Rattle.rules.specs.Digits.{all_at_most, all_ascii, value_from, decimal, same_bytes}
 use Rattle.rules.specs.Calendar.{days_of_month, first_day, exists, seconds_of, start_slot, day_length}
 use Rattle.rules.specs.Plant.{Settings, weighted_sum, check_digit, plant_id, all_hex, mac_address, valid_settings, percent, parts_of, installing}
-use Rattle.rules.specs.Name.{Name, format_of, segment_fits, lawful_name, name_shape, parse_name, encode_name}
-use Rattle.rules.specs.Body.{
-  Record,
-  schedule,
-  rates_of,
-  size_of,
-  record_shape,
-  record_at,
-  parse_records,
-  counted,
-  parse_body,
-  encode_record,
-  encode_records,
-  encode_body,
-  every,
-}
+use Rattle.rules.specs.Name.{format_of, segment_fits, lawful_name, name_shape, parse_name, encode_name}
+use Rattle.rules.specs.Body.{schedule, rates_of, size_of, record_shape, record_at, parse_records, counted, parse_body, encode_record, encode_records, encode_body, every}
 use Rattle.rules.specs.File.{
   Outcome,
   refuse,
@@ -36,7 +22,6 @@ use Rattle.rules.specs.File.{
   checksums_hold,
   plants_hold,
 }
-use Rattle.rules.specs.Store.{Requests}
 use Rattle.rules.specs.Machine.{approach, one, window_start, in_window, next_window, failed_fixed}
 use Rattle.rules.specs.Causes.{number_of}
 use Rattle.rules.specs.Writer.{Fields, Output, bytes, write_body, field_records, month_records, update_record, digits_fit, months_fit}

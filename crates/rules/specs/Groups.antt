@@ -1,5 +1,5 @@
 -- Numbers of a stored form (02, §2): 'in groups of seven bits, low group first, top bit set on all groups but the last, shortest form only, at most five groups'.
-use Rattle.std.specs.Prelude.{ℕ, zero, suc, ◌+◌, ◌-◌, ◌*◌, ◌/◌, ◌%◌, ◌^◌, Bool, cond, List, [], ◌∷◌, ltb, eqb}
+use Rattle.std.specs.Prelude.{ℕ, zero, suc, ◌+◌, ◌-◌, ◌*◌, ◌/◌, ◌%◌, ◌^◌, cond, List, [], ◌∷◌, ltb, eqb}
 use Rattle.std.proofs.Math.Option.{Option, none, some}
 
 -- five groups hold the numbers below this

@@ -1,5 +1,5 @@
 -- The lister (01, Beside the unit): the line that it prints for its input.
-use Rattle.std.specs.Prelude.{ℕ, ◌+◌, true, false, cond, List, [], ◌∷◌, ◌++◌, length, eqb}
+use Rattle.std.specs.Prelude.{ℕ, ◌+◌, cond, List, [], ◌∷◌, ◌++◌, length, eqb}
 use Rattle.std.proofs.Math.Option.{none}
 use Rattle.rules.specs.Digits.{decimal, to_ascii}
 use Rattle.rules.specs.Name.{format_number}

@@ -4,7 +4,7 @@ use Rattle.std.proofs.Math.Option.{Option, none, some}
 use Rattle.rules.specs.Calendar.{first_slot, month_of_slot, month_of, slot_of, time_of_day, day_length, slot_count, end_of_time, month_count}
 use Rattle.rules.specs.Plant.{Settings, percent, parts_of, last_digit}
 use Rattle.rules.specs.Name.{Name, segment_digit}
-use Rattle.rules.specs.Body.{Record, Body}
+use Rattle.rules.specs.Body.{Record}
 use Rattle.rules.specs.File.{File, Outcome, refuse, file, take_file, records_in, start_of, flag_of, next_access}
 use Rattle.rules.specs.Response.{take_response}
 use Rattle.rules.specs.Causes.{number_of, Reply, accepted, refused, ceiling, update, fixed, nothing, parts, blocks}

@@ -1,5 +1,5 @@
 -- A file's name (01, Names and bodies): format, segment, plant ID and creation time in 55 ASCII bytes.
-use Rattle.std.specs.Prelude.{ℕ, ◌+◌, Bool, true, false, cond, ◌&&◌, ◌||◌, List, [], ◌∷◌, ◌++◌, length, get_or, leb, eqb}
+use Rattle.std.specs.Prelude.{ℕ, ◌+◌, Bool, cond, ◌&&◌, ◌||◌, List, [], ◌∷◌, ◌++◌, length, get_or, leb, eqb}
 use Rattle.std.proofs.Math.Option.{Option, none, some}
 use Rattle.rules.specs.Digits.{part, digits, value, decimal, all_ascii, to_ascii, from_ascii, same_bytes}
 use Rattle.rules.specs.Calendar.{exists, month_number}

@@ -1,13 +1,13 @@
 -- What the definitions say at the edges of 01's rules: one table for each part, each proved by one computation.
-use Rattle.std.specs.Prelude.{ℕ, zero, suc, ◌+◌, ◌-◌, ◌*◌, ◌≡◌, refl, Bool, true, false, not, ◌&&◌, ◌||◌, List, [], ◌∷◌, ◌++◌, length, take, drop, replicate, set, eqb}
-use Rattle.std.proofs.Math.Option.{Option, none, some}
-use Rattle.rules.specs.Digits.{all_at_most, all_ascii, value_from, decimal, same_bytes, to_ascii, part}
+use Rattle.std.specs.Prelude.{ℕ, zero, suc, ◌+◌, ◌-◌, ◌*◌, ◌≡◌, refl, true, List, [], ◌∷◌, ◌++◌, length, take, replicate, set}
+use Rattle.std.proofs.Math.Option.{none, some}
+use Rattle.rules.specs.Digits.{all_at_most, all_ascii, value_from, decimal, same_bytes, to_ascii}
 use Rattle.rules.specs.Calendar.{leap_year, days_of_month, first_day, first_slot, month_from, month_of_day, month_of_slot, exists, seconds_of, moment, start_slot, slot_count}
 use Rattle.rules.specs.Plant.{weighted_sum, check_digit, plant_id, all_hex, mac_address, valid_settings, percent, installing}
 use Rattle.rules.specs.Name.{format_of, segment_fits, lawful_name, name_shape, parse_name, encode_name, any_segment}
 use Rattle.rules.specs.Body.{registration, rates_of, size_of, record_shape, record_at, parse_records, parse_registration, counted, parse_body, encode_record, encode_records, encode_body, every}
 use Rattle.rules.specs.File.{Outcome, refuse, file, read_file, take_file, stages, whole_month, months_from, update_dates, dates_hold, rates_hold, sum, checksum_of, checksums_hold, plants_hold}
-use Rattle.rules.specs.Store.{Requests, store_length}
+use Rattle.rules.specs.Store.{store_length}
 use Rattle.rules.specs.Machine.{
   Machine,
   Call,
@@ -50,7 +50,7 @@ use Rattle.rules.specs.Machine.{
   replies,
   one,
 }
-use Rattle.rules.specs.Writer.{Output, write_body, field_records, month_records, update_record, digits_fit, months_fit}
+use Rattle.rules.specs.Writer.{write_body, field_records, month_records, update_record, digits_fit, months_fit}
 use Rattle.rules.specs.ErrorFile.{more, least, most, utf8_from, utf8, is_error_file, error_code, error_text}
 use Rattle.rules.specs.Request.{request_bytes, request}
 use Rattle.rules.specs.Lister.{name_part, body_part, trim, total_rates, line_of, line}

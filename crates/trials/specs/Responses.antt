@@ -1,5 +1,5 @@
 -- Responses among the machine's calls: which cause comes first, and that a response counts as its name and file.
-use Rattle.std.specs.Prelude.{ℕ, ◌+◌, ◌*◌, ◌≡◌, refl, true, List, [], ◌∷◌, ◌++◌, length, take}
+use Rattle.std.specs.Prelude.{ℕ, ◌*◌, ◌≡◌, refl, true, List, [], ◌∷◌, ◌++◌, length, take}
 use Rattle.rules.specs.Digits.{all_at_most, all_ascii, value_from, decimal, same_bytes, to_ascii}
 use Rattle.rules.specs.Calendar.{days_of_month, first_day, first_slot, month_from, month_of_day, exists, seconds_of, start_slot}
 use Rattle.rules.specs.Plant.{percent}
@@ -54,7 +54,7 @@ use Rattle.rules.specs.Machine.{
   one,
 }
 use Rattle.rules.specs.declared.Format.TheVariants.{F203}
-use Rattle.trials.specs.Samples.{plant_x, told, name, update_body, reply_numbers, Line, ◌is◌, all_hold}
+use Rattle.trials.specs.Samples.{told, name, update_body, reply_numbers, Line, ◌is◌, all_hold}
 
 -- an update of one rate from 1 October 2099, 00:00 on
 body : List ℕ

@@ -1,9 +1,9 @@
 -- Sample plants, names, bodies and calls for the trials.
-use Rattle.std.specs.Prelude.{ℕ, zero, suc, ◌+◌, ◌*◌, ◌≡◌, refl, Bool, true, false, ◌&&◌, List, [], ◌∷◌, ◌++◌, length, replicate, eqb}
+use Rattle.std.specs.Prelude.{ℕ, suc, ◌+◌, ◌*◌, Bool, true, false, ◌&&◌, List, [], ◌∷◌, ◌++◌, length, replicate, eqb}
 use Rattle.std.proofs.Math.Option.{Option, none, some}
 use Rattle.rules.specs.Digits.{decimal}
 use Rattle.rules.specs.Plant.{Settings}
-use Rattle.rules.specs.Name.{Name, encode_name}
+use Rattle.rules.specs.Name.{encode_name}
 use Rattle.rules.specs.Body.{Record, schedule, encode_body}
 use Rattle.rules.specs.File.{Outcome, refuse, file, checksum_of}
 use Rattle.rules.specs.Causes.{Reply, accepted, refused, ceiling, update, fixed, nothing, parts, blocks, number_of}

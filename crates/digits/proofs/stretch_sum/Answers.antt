@@ -1,4 +1,3 @@
-use Prim.Native.Nat.{◌-◌}
 use native.Mathlib.Omega.{arith}
 use Rattle.digits.proofs.Scan.{sum_step, sum-end}
 use Rattle.digits.proofs.stretch_sum.Goals as goal

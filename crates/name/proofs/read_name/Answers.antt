@@ -3,11 +3,9 @@ use Prim.Native.Nat.{ℕ}
 use mathlib.Core.Path.{◌≡◌, refl, sym, ap, ◌∙◌}
 use mathlib.Core.Bool.{true}
 use mathlib.Core.List.{List}
-use mathlib.Core.Option.{Option}
 use native.Mathlib.Omega.{arith}
 use borrow.Author.Tests.{not-true, not-false}
-use Rattle.rules.specs.Name.{name_shape, format_of, parse_name, name_with}
-use Rattle.rules.specs.declared.Format.{Format}
+use Rattle.rules.specs.Name.{name_shape, format_of}
 use Rattle.laws.proofs.Bytes.{part_length}
 use Rattle.laws.proofs.Facts.{name-shape}
 use Rattle.name.specs.Read.{name_read}

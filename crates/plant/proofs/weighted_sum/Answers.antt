@@ -1,4 +1,4 @@
-use Prim.Native.Nat.{◌-◌, ◌%◌}
+use Prim.Native.Nat.{◌%◌}
 use native.Mathlib.Omega.{arith}
 use Rattle.plant.proofs.Scan.{weighted-step, weighted-end, weight_is, weight_bound, weighted_bound}
 use Rattle.plant.proofs.weighted_sum.Goals as goal
