@@ -39,7 +39,7 @@ use Rattle.calls.specs.Step.{State, step_done, step}
 use Rattle.unit.specs.declared.Unit.{Unit}
 use Rattle.about_calls.specs.Acceptance.{together}
 use Rattle.about_calls.specs.Full.{crowds, full_breaks}
-use Rattle.about_calls.specs.Refusals.{taking_rows, carried_by, of_file, call_rows, is_refused, file_rows, whole_rows, RefusesLowest, RefusalLeaves, AcceptsElse, FileRefuses, FileAccepts, WholeRefuses, WholeAccepts}
+use Rattle.about_calls.specs.Refusals.{taking_rows, carried_by, of_file, call_rows, is_refused, RefusesLowest, RefusalLeaves, AcceptsElse, FileRefuses, FileAccepts, WholeRefuses, WholeAccepts}
 use Rattle.about_calls.proofs.Full.{answer_of, cause_in, done-answer, full_is, full-cause}
 use Rattle.about_calls.proofs.UnitLaws.{taken_step}
 

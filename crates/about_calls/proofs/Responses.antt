@@ -16,7 +16,7 @@ use Rattle.rules.specs.Machine.{take_step, file_taken, step as machine_step}
 use Rattle.rules.specs.Table.{Row, first_of, is_cause, applies_in}
 use Rattle.rules.specs.declared.Answer.{Answer}
 use Rattle.rules.specs.declared.Cause.{Cause}
-use Rattle.about_responses.specs.Exact.{ResponseBytes, Carried}
+use Rattle.about_responses.specs.Exact.{Carried}
 use Rattle.about_responses.proofs.Exact.{response-exactly, broken-exactly}
 use Rattle.about_responses.proofs.Refusals.{response-carries}
 use Rattle.pool.specs.Held.{held_of}

@@ -1,7 +1,6 @@
 -- Where a record's fields stand, as C gets it: places that are 0 where it is refused, and 0 or a cause's number.
 use Rattle.std.specs.Prelude.{ℕ}
 use Rattle.rules.specs.Causes.{number_of}
-use Rattle.records.specs.declared.Places.{Places}
 use Rattle.records.specs.declared.Located.{Located}
 use Rattle.records.specs.declared.Located.TheVariants.{At, Refused}
 use Rattle.c_bodies.specs.declared.RecordPlaces.{RecordPlaces}

@@ -4,9 +4,6 @@ use Rattle.rules.specs.Causes.{number_of}
 use Rattle.rules.specs.declared.Answer.{Answer}
 use Rattle.rules.specs.Plant.{Settings}
 use Rattle.plant.specs.Plant.{kept_from, narrowed, is_kept, settings_of}
-use Rattle.plant.specs.declared.Plant.{Plant}
-use Rattle.pool.specs.declared.Pool.{Pool}
-use Rattle.polling.specs.declared.Requests.{Requests}
 use Rattle.unit.specs.declared.Unit.{Unit}
 use Rattle.unit.specs.declared.Done.{Done}
 use Rattle.unit.specs.declared.Installed.{Installed}

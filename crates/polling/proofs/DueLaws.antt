@@ -3,7 +3,7 @@ use Prim.Native.Nat.{ℕ}
 use mathlib.Core.Path.{◌≡◌, refl}
 use mathlib.Core.Bool.{Bool, true, false, cond}
 use lib.Dec.{leb}
-use Rattle.rules.specs.Causes.{Reply, update, fixed, nothing, of_due}
+use Rattle.rules.specs.Causes.{update, fixed, nothing, of_due}
 use Rattle.rules.specs.Machine.{due_of}
 use Rattle.rules.specs.declared.Due.{Due}
 use Rattle.polling.specs.Due.{asks_fixed, due_for, DueAsMachine}

@@ -1,5 +1,5 @@
 -- The pool of blocks: which are free, which month a used one holds, and what each call answers.
-use Rattle.std.specs.Prelude.{Bool, true, false, cond, not, ◌&&◌, ◌||◌, ◌≡◌, List, ℕ, ◌+◌, ◌-◌, ◌<◌, ◌^◌, eqb, ltb, leb, get_or, set}
+use Rattle.std.specs.Prelude.{Bool, cond, not, ◌&&◌, ◌||◌, ◌≡◌, List, ℕ, ◌+◌, ◌-◌, ◌<◌, ◌^◌, eqb, ltb, leb, get_or, set}
 use Rattle.rules.specs.Calendar.{month_count, last_month}
 use Rattle.rules.specs.Store.{block_count}
 use Rattle.pool.specs.Below.{count_below, all_below, first_below, pairs_below, number, bit}

@@ -1,5 +1,5 @@
 -- What is meant by a held month and by a sound pool, in the words of the laws.
-use Rattle.std.specs.Prelude.{◌≡◌, Bool, true, false, cond, ◌&&◌, ℕ, zero, suc, ◌≤◌, ◌<◌}
+use Rattle.std.specs.Prelude.{◌≡◌, Bool, false, cond, ◌&&◌, ℕ, zero, suc, ◌≤◌, ◌<◌}
 use mathlib.Core.List.{List, [], ◌∷◌, map, Memᴰ}
 use Rattle.rules.specs.Calendar.{last_month}
 use Rattle.rules.specs.Store.{Held as HeldMonth, sound_months, sound_blocks, block_count}

@@ -12,7 +12,7 @@ use lib.ListN.{length, take, drop, length-take}
 use lib.Seq.{sets}
 use borrow.Author.Tests.{eqb-true}
 use Rattle.rules.specs.Calendar.{first_slot, month_of_slot, slot_count}
-use Rattle.rules.specs.Store.{store_length, rate_bytes, block_count, block_length}
+use Rattle.rules.specs.Store.{store_length, block_count, block_length}
 use Rattle.laws.proofs.Tests.{both}
 use Rattle.calendar.proofs.Laws.{first-slot-step, days-range}
 use Rattle.pool.specs.Blocks.{is_free, free_count, given, find_of, take_of}

@@ -8,7 +8,6 @@ use Rattle.rules.specs.Machine.{count_below}
 use Rattle.pool.specs.Blocks.{find_of, take_of}
 use Rattle.pool.specs.Held.{held_of}
 use Rattle.pool.specs.declared.Pool.{Pool}
-use Rattle.pool.specs.declared.Taken.{Taken}
 use Rattle.pool.specs.declared.Found.{Found}
 use Rattle.pool.specs.declared.Found.TheVariants.{At, Nothing}
 use Rattle.pool.specs.declared.Place.{Place}

@@ -1,5 +1,5 @@
 -- What a line asks for, by its first word and the number of its words; 'anything else -> unknown'.
-use Rattle.std.specs.Prelude.{ℕ, Bool, true, false, cond, ◌&&◌, List, [], ◌∷◌, leb, eqb}
+use Rattle.std.specs.Prelude.{ℕ, Bool, true, cond, ◌&&◌, List, [], ◌∷◌, leb, eqb}
 use Rattle.rules.specs.Digits.{same_bytes}
 use Rattle.rules.specs.declared.Kind.{Kind}
 use Rattle.script_words.specs.Words.{word_at, word_count}

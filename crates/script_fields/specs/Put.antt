@@ -1,5 +1,5 @@
 -- Answers as text, put into a buffer from a place on. What does not fit is left out whole.
-use Rattle.std.specs.Prelude.{ℕ, ◌+◌, Bool, true, false, cond, List, length, leb}
+use Rattle.std.specs.Prelude.{ℕ, ◌+◌, Bool, cond, List, length, leb}
 use Rattle.std.proofs.Math.Seq.{paste}
 
 abbrev pub room_for : List ℕ → ℕ → List ℕ → Bool

@@ -1,5 +1,5 @@
 -- A number: 'Numbers are decimal and may be any u64'. 'A number that is not decimal or above u64: `unknown`'.
-use Rattle.std.specs.Prelude.{ℕ, ◌+◌, ◌-◌, ◌*◌, Bool, true, false, cond, ◌&&◌, List, [], ◌∷◌, leb}
+use Rattle.std.specs.Prelude.{ℕ, ◌+◌, ◌-◌, ◌*◌, Bool, cond, ◌&&◌, List, [], ◌∷◌, leb}
 use Rattle.script_words.specs.declared.number.Number.{Number}
 use Rattle.script_words.specs.declared.number.Number.TheVariants.{Value, Broken}
 

@@ -1,5 +1,5 @@
 -- The words of a line: 'Words are parted by one space'.
-use Rattle.std.specs.Prelude.{ℕ, zero, suc, ◌+◌, Bool, true, false, cond, List, [], ◌∷◌, length, take, drop, eqb}
+use Rattle.std.specs.Prelude.{ℕ, zero, suc, ◌+◌, cond, List, [], ◌∷◌, take, drop, eqb}
 
 -- the place of the first byte b, or the length where there is none
 unfoldable pub place_of : ℕ → List ℕ → ℕ

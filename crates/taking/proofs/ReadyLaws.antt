@@ -15,7 +15,7 @@ use Rattle.rules.specs.declared.Cause.{Cause}
 use Rattle.pool.specs.Held.{held_of}
 use Rattle.schedule.specs.Stored.{store_holds}
 use Rattle.unit.specs.Values.{is_sound}
-use Rattle.unit.specs.Rows.{length_row, sound_row, clock_row, is_unset}
+use Rattle.unit.specs.Rows.{is_unset}
 use Rattle.unit.specs.Calls.{refusal, clock_time, done_by}
 use Rattle.unit.specs.declared.Unit.{Unit}
 use Rattle.unit.specs.declared.Clock.{Clock}

@@ -1,15 +1,15 @@
 -- What is answered and left at each return of the code that takes a file or a response.
 use Prim.Native.Nat.{ℕ, ◌-◌, ◌≤◌, ◌<◌}
-use mathlib.Core.Path.{◌≡◌, ◌∙◌, refl, sym, ap}
-use mathlib.Core.Bool.{Bool, true, false, cond, ◌&&◌}
-use mathlib.Core.List.{List, [], ◌∷◌}
-use mathlib.Core.Option.{Option, none, some}
+use mathlib.Core.Path.{◌≡◌, ◌∙◌, refl, ap}
+use mathlib.Core.Bool.{Bool, true, false}
+use mathlib.Core.List.{List}
+use mathlib.Core.Option.{none, some}
 use lib.Dec.{ltb}
 use lib.ListN.{length, take, drop}
 use borrow.Author.Tests.{eq-eqb, lt-ltb, le-ltb}
 use Rattle.rules.specs.Body.{Record}
 use Rattle.rules.specs.File.{File, Outcome, refuse, file, take_file, records_in}
-use Rattle.rules.specs.Response.{parse_response, take_parsed, take_response}
+use Rattle.rules.specs.Response.{parse_response, take_response}
 use Rattle.rules.specs.Machine.{take_by}
 use Rattle.rules.specs.Store.{store_length}
 use Rattle.rules.specs.declared.Cause.{Cause}

@@ -6,7 +6,7 @@ use native.Mathlib.Omega.{arith}
 use lib.ListN.{length, length-append}
 use Rattle.rules.specs.Digits.{decimal}
 use Rattle.rules.specs.Calendar.{first_slot}
-use Rattle.rules.specs.Body.{schedule, encode_body, encode_record, encode_records}
+use Rattle.rules.specs.Body.{encode_body, encode_record, encode_records}
 use Rattle.rules.specs.Writer.{Fields, Output, fitting, update_record, write_body}
 use Rattle.rules.specs.declared.Cause.{Cause}
 use Rattle.laws.proofs.Bytes.{length-decimal}

@@ -11,7 +11,7 @@ returns-in-Tick c =
     let store : List ℕ = c.args.store.now in
     let label : List ℕ = c.args.label.now in
     let bytes : List ℕ = c.args.bytes.now in
-    let both = tick-step (unit) (store) (label) (bytes) _ _ _ c.answered.ensures _ c.in-Tick.is c.tick.ensures in
+    let both = tick-step unit store label bytes _ _ _ c.answered.ensures _ c.in-Tick.is c.tick.ensures in
     record { answer = both.0; kept = both.1 }
 
 pub returns-in-ClockLost : goal.returns-in-ClockLost
@@ -20,7 +20,7 @@ returns-in-ClockLost c =
     let store : List ℕ = c.args.store.now in
     let label : List ℕ = c.args.label.now in
     let bytes : List ℕ = c.args.bytes.now in
-    let both = lost-step (unit) (store) (label) (bytes) _ _ _ c.answered-in-ClockLost.ensures c.in-ClockLost.is c.clock_lost.ensures in
+    let both = lost-step unit store label bytes _ _ _ c.answered-in-ClockLost.ensures c.in-ClockLost.is c.clock_lost.ensures in
     record { answer = both.0; kept = both.1 }
 
 pub returns-in-File : goal.returns-in-File
@@ -30,7 +30,7 @@ returns-in-File c =
     let label : List ℕ = c.args.label.now in
     let bytes : List ℕ = c.args.bytes.now in
     let f = c.take_file.ensures in
-    let both = file-step (unit) (store) (label) (bytes) _ _ _ c.answered-in-File.ensures c.in-File.is _ f.answer f.kept in
+    let both = file-step unit store label bytes _ _ _ c.answered-in-File.ensures c.in-File.is _ f.answer f.kept in
     record { answer = both.0; kept = both.1 }
 
 pub returns-in-Response : goal.returns-in-Response
@@ -40,7 +40,7 @@ returns-in-Response c =
     let label : List ℕ = c.args.label.now in
     let bytes : List ℕ = c.args.bytes.now in
     let f = c.take_response.ensures in
-    let both = response-step (unit) (store) (label) (bytes) _ _ _ c.answered-in-Response.ensures c.in-Response.is _ f.answer f.kept in
+    let both = response-step unit store label bytes _ _ _ c.answered-in-Response.ensures c.in-Response.is _ f.answer f.kept in
     record { answer = both.0; kept = both.1 }
 
 pub returns-in-Failure : goal.returns-in-Failure
@@ -49,7 +49,7 @@ returns-in-Failure c =
     let store : List ℕ = c.args.store.now in
     let label : List ℕ = c.args.label.now in
     let bytes : List ℕ = c.args.bytes.now in
-    let both = failure-step (unit) (store) (label) (bytes) _ _ _ c.answered-in-Failure.ensures _ _ c.in-Failure.is c.failure.ensures in
+    let both = failure-step unit store label bytes _ _ _ c.answered-in-Failure.ensures _ _ c.in-Failure.is c.failure.ensures in
     record { answer = both.0; kept = both.1 }
 
 pub returns-in-Due : goal.returns-in-Due
@@ -58,7 +58,7 @@ returns-in-Due c =
     let store : List ℕ = c.args.store.now in
     let label : List ℕ = c.args.label.now in
     let bytes : List ℕ = c.args.bytes.now in
-    let both = due-step (unit) (store) (label) (bytes) _ _ _ c.due_replied.ensures c.in-Due.is c.due.ensures in
+    let both = due-step unit store label bytes _ _ _ c.due_replied.ensures c.in-Due.is c.due.ensures in
     record { answer = both.0; kept = both.1 }
 
 pub returns-in-Ceiling : goal.returns-in-Ceiling
@@ -67,7 +67,7 @@ returns-in-Ceiling c =
     let store : List ℕ = c.args.store.now in
     let label : List ℕ = c.args.label.now in
     let bytes : List ℕ = c.args.bytes.now in
-    let both = ceiling-step (unit) (store) (label) (bytes) _ _ _ c.ceiling_replied.ensures _ c.in-Ceiling.is c.ceiling.ensures in
+    let both = ceiling-step unit store label bytes _ _ _ c.ceiling_replied.ensures _ c.in-Ceiling.is c.ceiling.ensures in
     record { answer = both.0; kept = both.1 }
 
 pub returns-in-Command : goal.returns-in-Command
@@ -76,7 +76,7 @@ returns-in-Command c =
     let store : List ℕ = c.args.store.now in
     let label : List ℕ = c.args.label.now in
     let bytes : List ℕ = c.args.bytes.now in
-    let both = command-step (unit) (store) (label) (bytes) _ _ _ c.command_replied.ensures c.in-Command.is c.command.ensures in
+    let both = command-step unit store label bytes _ _ _ c.command_replied.ensures c.in-Command.is c.command.ensures in
     record { answer = both.0; kept = both.1 }
 
 pub returns-in-FreeBlocks : goal.returns-in-FreeBlocks
@@ -85,5 +85,5 @@ returns-in-FreeBlocks c =
     let store : List ℕ = c.args.store.now in
     let label : List ℕ = c.args.label.now in
     let bytes : List ℕ = c.args.bytes.now in
-    let both = free_step (unit) (store) (label) (bytes) _ _ _ c.free_replied.ensures c.in-FreeBlocks.is c.free_blocks.ensures in
+    let both = free_step unit store label bytes _ _ _ c.free_replied.ensures c.in-FreeBlocks.is c.free_blocks.ensures in
     record { answer = both.0; kept = both.1 }

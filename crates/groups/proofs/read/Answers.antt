@@ -62,11 +62,11 @@ overflow_mul-result c =
     let in_reach : (c.loop-i.i < c.args.at + 5)
     × (c.loop-i.i < length c.args.s.now) = omega (arith, c.lesser-end.ensures) in
     let unit-small : c.loop-i.unit ≤ 2 ^ 28 = let l = c.loop-i in
-    omega (arith, l.invariant.1, unit-most c.args.at l.i (in_reach).0) in
+    omega (arith, l.invariant.1, unit-most c.args.at l.i in_reach.0) in
     let byte : get_or c.args.s.now c.loop-i.i 0 ≤ 255 = omega (arith, c.shared_slice_known-in-loop-i-1.given c.loop-i.i) in
     let product : c.loop-i.unit
     * get_or c.args.s.now c.loop-i.i 0
-    ≤ 2 ^ 28 * 255 = product-most _ _ (unit-small) (byte) in
+    ≤ 2 ^ 28 * 255 = product-most _ _ unit-small byte in
     omega (arith, product)
 
 pub overflow_add-result-then-group-lt-MORE : goal.overflow_add-result-then-group-lt-MORE
@@ -74,11 +74,11 @@ overflow_add-result-then-group-lt-MORE c =
     let in_reach : (c.loop-i.i < c.args.at + 5)
     × (c.loop-i.i < length c.args.s.now) = omega (arith, c.lesser-end.ensures) in
     let unit-small : c.loop-i.unit ≤ 2 ^ 28 = let l = c.loop-i in
-    omega (arith, l.invariant.1, unit-most c.args.at l.i (in_reach).0) in
+    omega (arith, l.invariant.1, unit-most c.args.at l.i in_reach.0) in
     let byte : get_or c.args.s.now c.loop-i.i 0 ≤ 255 = omega (arith, c.shared_slice_known-in-loop-i-1.given c.loop-i.i) in
     let product : c.loop-i.unit
     * get_or c.args.s.now c.loop-i.i 0
-    ≤ 2 ^ 28 * 255 = product-most _ _ (unit-small) (byte) in
+    ≤ 2 ^ 28 * 255 = product-most _ _ unit-small byte in
     omega (arith, product, unit-small)
 
 pub overflow_add-result-then-group-lt-MORE-2 : goal.overflow_add-result-then-group-lt-MORE-2
@@ -104,7 +104,7 @@ overflow_mul-value c =
     let in_reach : (c.loop-i.i < c.args.at + 5)
     × (c.loop-i.i < length c.args.s.now) = omega (arith, c.lesser-end.ensures) in
     let unit-small : c.loop-i.unit ≤ 2 ^ 28 = let l = c.loop-i in
-    omega (arith, l.invariant.1, unit-most c.args.at l.i (in_reach).0) in
+    omega (arith, l.invariant.1, unit-most c.args.at l.i in_reach.0) in
     omega (arith, grown, unit-small)
 
 pub overflow_add-value : goal.overflow_add-value
@@ -118,7 +118,7 @@ overflow_add-value c =
     let in_reach : (c.loop-i.i < c.args.at + 5)
     × (c.loop-i.i < length c.args.s.now) = omega (arith, c.lesser-end.ensures) in
     let unit-small : c.loop-i.unit ≤ 2 ^ 28 = let l = c.loop-i in
-    omega (arith, l.invariant.1, unit-most c.args.at l.i (in_reach).0) in
+    omega (arith, l.invariant.1, unit-most c.args.at l.i in_reach.0) in
     omega (arith, grown, unit-small)
 
 pub overflow_mul-unit : goal.overflow_mul-unit
@@ -126,7 +126,7 @@ overflow_mul-unit c =
     let in_reach : (c.loop-i.i < c.args.at + 5)
     × (c.loop-i.i < length c.args.s.now) = omega (arith, c.lesser-end.ensures) in
     let unit-small : c.loop-i.unit ≤ 2 ^ 28 = let l = c.loop-i in
-    omega (arith, l.invariant.1, unit-most c.args.at l.i (in_reach).0) in
+    omega (arith, l.invariant.1, unit-most c.args.at l.i in_reach.0) in
     omega (arith, unit-small)
 
 pub overflow_add-i-in-loop-i : goal.overflow_add-i-in-loop-i

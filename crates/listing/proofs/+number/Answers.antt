@@ -1,5 +1,5 @@
 -- `listing::number` meets its contract: the digits before the last, and the last.
-use Rattle.std.proofs.Common.{◌≡◌, ◌∙◌, ap, ◌+◌, ◌/◌, ◌%◌, ◌≤◌, length, arith}
+use Rattle.std.proofs.Common.{◌≡◌, ◌∙◌, ap, ◌+◌, ◌/◌, ◌%◌, length, arith}
 use Rattle.rules.specs.Lister.{numeral}
 use Rattle.listing.specs.declared.Line.{Line}
 use Rattle.listing.specs.Line.{put_in}

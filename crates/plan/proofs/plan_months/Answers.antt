@@ -21,7 +21,7 @@ returns-then-not-is_digits c =
     let form-tested : (t : Bool) → flags ≡ t
     → let a = c.args in
     (digits 10 a.schedule.now && digits 12 a.start.now) ≡ t = λ t e. cc (c.is_digits-2.ensures, c.is_digits.ensures) in
-    months-form _ _ _ _ (form-tested false (not-true (flags) c.if-not-is_digits.true-raw))
+    months-form _ _ _ _ (form-tested false (not-true flags c.if-not-is_digits.true-raw))
 
 pub returns-in_default : goal.returns-in_default
 returns-in_default c =
@@ -30,13 +30,13 @@ returns-in_default c =
     → let a = c.args in
     (digits 10 a.schedule.now && digits 12 a.start.now) ≡ t = λ t e. cc (c.is_digits-2.ensures, c.is_digits.ensures) in
     let formed : let a = c.args in
-    (digits 10 a.schedule.now && digits 12 a.start.now) ≡ true = form-tested true (not-false (flags) c.if-not-is_digits.false-raw) in
-    months-unbegun _ _ _ _ (formed) (sym c.in_default.is ∙ c.month_begun.ensures)
+    (digits 10 a.schedule.now && digits 12 a.start.now) ≡ true = form-tested true (not-false flags c.if-not-is_digits.false-raw) in
+    months-unbegun _ _ _ _ formed (sym c.in_default.is ∙ c.month_begun.ensures)
 
 pub overflow_add-end : goal.overflow_add-end
 overflow_add-end c =
     let begun : Month c.in-Month.first ≡ month_begun c.args.start.now = sym c.in-Month.is ∙ c.month_begun.ensures in
-    omega (arith, (begun-facts _ _ (begun)).few, c.requires)
+    omega (arith, (begun-facts _ _ begun).few, c.requires)
 
 pub overflow_sub-slots : goal.overflow_sub-slots
 overflow_sub-slots c =
@@ -51,14 +51,14 @@ returns-then-not-end-rates c =
     → let a = c.args in
     (digits 10 a.schedule.now && digits 12 a.start.now) ≡ t = λ t e. cc (c.is_digits-2.ensures, c.is_digits.ensures) in
     let formed : let a = c.args in
-    (digits 10 a.schedule.now && digits 12 a.start.now) ≡ true = form-tested true (not-false (flags) c.if-not-is_digits.false-raw) in
+    (digits 10 a.schedule.now && digits 12 a.start.now) ≡ true = form-tested true (not-false flags c.if-not-is_digits.false-raw) in
     let begun : Month c.in-Month.first ≡ month_begun c.args.start.now = sym c.in-Month.is ∙ c.month_begun.ensures in
     let lengths : Bool = leb (c.in-Month.first + c.args.count) month_count
     && eqb (length c.args.rates.now) (c.first_slot.result - c.first_slot-2.result) in
     let length-tested : (t : Bool) → lengths ≡ t
     → let a = c.args in
     length_fits a.count a.schedule.now a.start.now a.rates.now c.in-Month.first ≡ t = λ t e. cc (c.first_slot-2.ensures, c.first_slot.ensures) in
-    months-length _ _ _ _ (formed) _ (begun) (length-tested false (not-true (lengths) c.if-not-end-rates.true-raw))
+    months-length _ _ _ _ formed _ begun (length-tested false (not-true lengths c.if-not-end-rates.true-raw))
 
 pub returns-then-not-all_at_most : goal.returns-then-not-all_at_most
 returns-then-not-all_at_most c =
@@ -67,14 +67,14 @@ returns-then-not-all_at_most c =
     → let a = c.args in
     (digits 10 a.schedule.now && digits 12 a.start.now) ≡ t = λ t e. cc (c.is_digits-2.ensures, c.is_digits.ensures) in
     let formed : let a = c.args in
-    (digits 10 a.schedule.now && digits 12 a.start.now) ≡ true = form-tested true (not-false (flags) c.if-not-is_digits.false-raw) in
+    (digits 10 a.schedule.now && digits 12 a.start.now) ≡ true = form-tested true (not-false flags c.if-not-is_digits.false-raw) in
     let begun : Month c.in-Month.first ≡ month_begun c.args.start.now = sym c.in-Month.is ∙ c.month_begun.ensures in
     let lengths : Bool = leb (c.in-Month.first + c.args.count) month_count
     && eqb (length c.args.rates.now) (c.first_slot.result - c.first_slot-2.result) in
     let length-tested : (t : Bool) → lengths ≡ t
     → let a = c.args in
     length_fits a.count a.schedule.now a.start.now a.rates.now c.in-Month.first ≡ t = λ t e. cc (c.first_slot-2.ensures, c.first_slot.ensures) in
-    months-rate _ _ _ _ (formed) _ (begun) (length-tested true (not-false (lengths) c.if-not-end-rates.false-raw))
+    months-rate _ _ _ _ formed _ begun (length-tested true (not-false lengths c.if-not-end-rates.false-raw))
     (sym c.all_at_most.ensures ∙ not-true _ c.if-not-all_at_most.true-raw)
 
 pub returns : goal.returns
@@ -84,12 +84,12 @@ returns c =
     → let a = c.args in
     (digits 10 a.schedule.now && digits 12 a.start.now) ≡ t = λ t e. cc (c.is_digits-2.ensures, c.is_digits.ensures) in
     let formed : let a = c.args in
-    (digits 10 a.schedule.now && digits 12 a.start.now) ≡ true = form-tested true (not-false (flags) c.if-not-is_digits.false-raw) in
+    (digits 10 a.schedule.now && digits 12 a.start.now) ≡ true = form-tested true (not-false flags c.if-not-is_digits.false-raw) in
     let begun : Month c.in-Month.first ≡ month_begun c.args.start.now = sym c.in-Month.is ∙ c.month_begun.ensures in
     let lengths : Bool = leb (c.in-Month.first + c.args.count) month_count
     && eqb (length c.args.rates.now) (c.first_slot.result - c.first_slot-2.result) in
     let length-tested : (t : Bool) → lengths ≡ t
     → let a = c.args in
     length_fits a.count a.schedule.now a.start.now a.rates.now c.in-Month.first ≡ t = λ t e. cc (c.first_slot-2.ensures, c.first_slot.ensures) in
-    months-plan _ _ _ _ (formed) _ (begun) (length-tested true (not-false (lengths) c.if-not-end-rates.false-raw))
+    months-plan _ _ _ _ formed _ begun (length-tested true (not-false lengths c.if-not-end-rates.false-raw))
     (sym c.all_at_most.ensures ∙ not-false _ c.if-not-all_at_most.false-raw)

@@ -16,7 +16,7 @@ returns-then-not-is_digits-few c =
     let form-tested : (t : Bool) → flags ≡ t
     → let a = c.args in
     form_fits a.schedule.now a.start.now a.next.now a.rates.now ≡ t = λ t e. cc (c.is_digits-3.ensures, c.is_digits-2.ensures, c.is_digits.ensures, c.most_rates-most.ensures) in
-    update-form _ _ _ _ (form-tested false (not-true (flags) c.if-not-is_digits-few.true-raw))
+    update-form _ _ _ _ (form-tested false (not-true flags c.if-not-is_digits-few.true-raw))
 
 pub overflow_cast-rates : goal.overflow_cast-rates
 overflow_cast-rates c =
@@ -26,9 +26,9 @@ overflow_cast-rates c =
     → let a = c.args in
     form_fits a.schedule.now a.start.now a.next.now a.rates.now ≡ t = λ t e. cc (c.is_digits-3.ensures, c.is_digits-2.ensures, c.is_digits.ensures, c.most_rates-most.ensures) in
     let formed : let a = c.args in
-    form_fits a.schedule.now a.start.now a.next.now a.rates.now ≡ true = form-tested true (not-false (flags) c.if-not-is_digits-few.false-raw) in
+    form_fits a.schedule.now a.start.now a.next.now a.rates.now ≡ true = form-tested true (not-false flags c.if-not-is_digits-few.false-raw) in
     let a = c.args in
-    omega (arith, update-few a.schedule.now a.start.now a.next.now a.rates.now (formed))
+    omega (arith, update-few a.schedule.now a.start.now a.next.now a.rates.now formed)
 
 pub returns-then-not-is_update : goal.returns-then-not-is_update
 returns-then-not-is_update c =
@@ -38,8 +38,8 @@ returns-then-not-is_update c =
     → let a = c.args in
     form_fits a.schedule.now a.start.now a.next.now a.rates.now ≡ t = λ t e. cc (c.is_digits-3.ensures, c.is_digits-2.ensures, c.is_digits.ensures, c.most_rates-most.ensures) in
     let formed : let a = c.args in
-    form_fits a.schedule.now a.start.now a.next.now a.rates.now ≡ true = form-tested true (not-false (flags) c.if-not-is_digits-few.false-raw) in
-    update-date _ _ _ _ (formed) (sym c.is_update.ensures ∙ not-true _ c.if-not-is_update.true-raw)
+    form_fits a.schedule.now a.start.now a.next.now a.rates.now ≡ true = form-tested true (not-false flags c.if-not-is_digits-few.false-raw) in
+    update-date _ _ _ _ formed (sym c.is_update.ensures ∙ not-true _ c.if-not-is_update.true-raw)
 
 pub returns-then-not-all_at_most : goal.returns-then-not-all_at_most
 returns-then-not-all_at_most c =
@@ -49,10 +49,10 @@ returns-then-not-all_at_most c =
     → let a = c.args in
     form_fits a.schedule.now a.start.now a.next.now a.rates.now ≡ t = λ t e. cc (c.is_digits-3.ensures, c.is_digits-2.ensures, c.is_digits.ensures, c.most_rates-most.ensures) in
     let formed : let a = c.args in
-    form_fits a.schedule.now a.start.now a.next.now a.rates.now ≡ true = form-tested true (not-false (flags) c.if-not-is_digits-few.false-raw) in
+    form_fits a.schedule.now a.start.now a.next.now a.rates.now ≡ true = form-tested true (not-false flags c.if-not-is_digits-few.false-raw) in
     let dated : let a = c.args in
     update_holds a.start.now (length a.rates.now) a.next.now ≡ true = sym c.is_update.ensures ∙ not-false _ c.if-not-is_update.false-raw in
-    update-rate _ _ _ _ (formed) (dated)
+    update-rate _ _ _ _ formed dated
     (sym c.all_at_most.ensures ∙ not-true _ c.if-not-all_at_most.true-raw)
 
 pub returns : goal.returns
@@ -63,8 +63,8 @@ returns c =
     → let a = c.args in
     form_fits a.schedule.now a.start.now a.next.now a.rates.now ≡ t = λ t e. cc (c.is_digits-3.ensures, c.is_digits-2.ensures, c.is_digits.ensures, c.most_rates-most.ensures) in
     let formed : let a = c.args in
-    form_fits a.schedule.now a.start.now a.next.now a.rates.now ≡ true = form-tested true (not-false (flags) c.if-not-is_digits-few.false-raw) in
+    form_fits a.schedule.now a.start.now a.next.now a.rates.now ≡ true = form-tested true (not-false flags c.if-not-is_digits-few.false-raw) in
     let dated : let a = c.args in
     update_holds a.start.now (length a.rates.now) a.next.now ≡ true = sym c.is_update.ensures ∙ not-false _ c.if-not-is_update.false-raw in
-    update-plan _ _ _ _ (formed) (dated)
+    update-plan _ _ _ _ formed dated
     (sym c.all_at_most.ensures ∙ not-false _ c.if-not-all_at_most.false-raw)

@@ -17,41 +17,41 @@ returns-then-not-is_schedule c =
 pub returns-then-not-stands : goal.returns-then-not-stands
 returns-then-not-stands c =
     let scheduled : is_schedule c.args.format ≡ true = sym c.is_schedule.ensures ∙ not-false _ c.if-not-is_schedule.false-raw in
-    let both = refused _ (output-form _ _ _ (scheduled) (sym c.stands.ensures ∙ not-true _ c.if-not-stands.true-raw)) in
+    let both = refused _ (output-form _ _ _ scheduled (sym c.stands.ensures ∙ not-true _ c.if-not-stands.true-raw)) in
     record { answer = both.0; buffer = both.1 }
 
 pub slice_bounds-s-count : goal.slice_bounds-s-count
 slice_bounds-s-count c =
     let stood : standing c.args.format c.args.body.now ≡ true = sym c.stands.ensures ∙ not-false _ c.if-not-stands.false-raw in
-    count_room _ _ (stands_facts _ _ (stood)).counts
+    count_room _ _ (stands_facts _ _ stood).counts
 
 pub slice_bounds-s-start : goal.slice_bounds-s-start
 slice_bounds-s-start c =
     let stood : standing c.args.format c.args.body.now ≡ true = sym c.stands.ensures ∙ not-false _ c.if-not-stands.false-raw in
-    count_room _ _ (stands_facts _ _ (stood)).counts
+    count_room _ _ (stands_facts _ _ stood).counts
 
 pub overflow_sub-length : goal.overflow_sub-length
 overflow_sub-length c =
     let scheduled : is_schedule c.args.format ≡ true = sym c.is_schedule.ensures ∙ not-false _ c.if-not-is_schedule.false-raw in
     let stood : standing c.args.format c.args.body.now ≡ true = sym c.stands.ensures ∙ not-false _ c.if-not-stands.false-raw in
-    fixed-inside _ _ c.args.out.now (scheduled) (stood) _ c.fixed_bytes.ensures.exact
+    fixed-inside _ _ c.args.out.now scheduled stood _ c.fixed_bytes.ensures.exact
 
 pub returns-then-out-length : goal.returns-then-out-length
 returns-then-out-length c =
     let scheduled : is_schedule c.args.format ≡ true = sym c.is_schedule.ensures ∙ not-false _ c.if-not-is_schedule.false-raw in
     let stood : standing c.args.format c.args.body.now ≡ true = sym c.stands.ensures ∙ not-false _ c.if-not-stands.false-raw in
-    let both = copy-short _ _ _ (scheduled) (stood) _ c.fixed_bytes.ensures.exact c.if-out-length.true in
+    let both = copy-short _ _ _ scheduled stood _ c.fixed_bytes.ensures.exact c.if-out-length.true in
     record { answer = both.0; buffer = both.1 }
 
 pub put_rates-requires : goal.put_rates-requires
 put_rates-requires c =
     let scheduled : is_schedule c.args.format ≡ true = sym c.is_schedule.ensures ∙ not-false _ c.if-not-is_schedule.false-raw in
     let stood : standing c.args.format c.args.body.now ≡ true = sym c.stands.ensures ∙ not-false _ c.if-not-stands.false-raw in
-    copy-room _ _ c.args.out.now (scheduled) (stood) _ c.fixed_bytes.ensures.exact c.if-out-length.false
+    copy-room _ _ c.args.out.now scheduled stood _ c.fixed_bytes.ensures.exact c.if-out-length.false
 
 pub returns : goal.returns
 returns c =
     let scheduled : is_schedule c.args.format ≡ true = sym c.is_schedule.ensures ∙ not-false _ c.if-not-is_schedule.false-raw in
     let stood : standing c.args.format c.args.body.now ≡ true = sym c.stands.ensures ∙ not-false _ c.if-not-stands.false-raw in
-    let both = copy_done _ _ _ (scheduled) (stood) _ c.fixed_bytes.ensures.exact c.if-out-length.false c.put_rates.ensures in
+    let both = copy_done _ _ _ scheduled stood _ c.fixed_bytes.ensures.exact c.if-out-length.false c.put_rates.ensures in
     record { answer = both.0; buffer = both.1 }

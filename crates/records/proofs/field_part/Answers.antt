@@ -13,16 +13,16 @@ pub overflow_add-end : goal.overflow_add-end
 overflow_add-end c =
     let located : let a = c.args in
     At c.in-At.places ≡ locate a.format a.body.now a.index = sym c.in-At.is ∙ c.locate.ensures in
-    omega (arith, c.well_formed, piece_inside _ _ _ _ (located) _ _ c.part_of-part.ensures)
+    omega (arith, c.well_formed, piece_inside _ _ _ _ located _ _ c.part_of-part.ensures)
 
 pub slice_bounds-result-end-2 : goal.slice_bounds-result-end-2
 slice_bounds-result-end-2 c =
     let located : let a = c.args in
     At c.in-At.places ≡ locate a.format a.body.now a.index = sym c.in-At.is ∙ c.locate.ensures in
-    piece_inside _ _ _ _ (located) _ _ c.part_of-part.ensures
+    piece_inside _ _ _ _ located _ _ c.part_of-part.ensures
 
 pub returns : goal.returns
 returns c =
     let located : let a = c.args in
     At c.in-At.places ≡ locate a.format a.body.now a.index = sym c.in-At.is ∙ c.locate.ensures in
-    piece_is _ _ _ _ (located) _ _ c.part_of-part.ensures
+    piece_is _ _ _ _ located _ _ c.part_of-part.ensures

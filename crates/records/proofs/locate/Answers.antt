@@ -21,14 +21,14 @@ pub returns-then-not-stands : goal.returns-then-not-stands
 returns-then-not-stands c =
     let scheduled : is_schedule c.args.format ≡ true = sym c.is_schedule.ensures ∙ not-false _ c.if-not-is_schedule.false-raw in
     let k = c.record_count.ensures in
-    no-form _ _ _ (omega (arith, c.if-record_count-index.false)) (scheduled) (sym c.stands.ensures ∙ not-true _ c.if-not-stands.true-raw)
+    no-form _ _ _ (omega (arith, c.if-record_count-index.false)) scheduled (sym c.stands.ensures ∙ not-true _ c.if-not-stands.true-raw)
 
 pub places_in-requires : goal.places_in-requires
 places_in-requires c =
     let stood : let a = c.args in
     standing a.format a.body.now ≡ true = sym c.stands.ensures ∙ not-false _ c.if-not-stands.false-raw in
     let k = c.record_count.ensures in
-    (stands_facts _ _ (stood), omega (arith, c.if-record_count-index.false))
+    (stands_facts _ _ stood, omega (arith, c.if-record_count-index.false))
 
 pub returns : goal.returns
 returns c =
@@ -36,4 +36,4 @@ returns c =
     let stood : let a = c.args in
     standing a.format a.body.now ≡ true = sym c.stands.ensures ∙ not-false _ c.if-not-stands.false-raw in
     let k = c.record_count.ensures in
-    found _ _ _ (omega (arith, c.if-record_count-index.false)) (scheduled) (stood) c.places_in.ensures
+    found _ _ _ (omega (arith, c.if-record_count-index.false)) scheduled stood c.places_in.ensures

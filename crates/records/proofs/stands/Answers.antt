@@ -14,16 +14,16 @@ pub slice_bounds-records_stand-count : goal.slice_bounds-records_stand-count
 slice_bounds-records_stand-count c =
     let count_held : let a = c.args in
     counted a.format a.body.now ≡ true = sym c.count_holds.ensures ∙ not-false _ c.if-not-count_holds.false-raw in
-    count_room _ _ (count_held)
+    count_room _ _ count_held
 
 pub slice_bounds-records_stand-start : goal.slice_bounds-records_stand-start
 slice_bounds-records_stand-start c =
     let count_held : let a = c.args in
     counted a.format a.body.now ≡ true = sym c.count_holds.ensures ∙ not-false _ c.if-not-count_holds.false-raw in
-    count_room _ _ (count_held)
+    count_room _ _ count_held
 
 pub returns : goal.returns
 returns c =
     let count_held : let a = c.args in
     counted a.format a.body.now ≡ true = sym c.count_holds.ensures ∙ not-false _ c.if-not-count_holds.false-raw in
-    is-standing _ _ (count_held) c.records_stand.ensures
+    is-standing _ _ count_held c.records_stand.ensures

@@ -19,7 +19,7 @@ returns-then-not-is_mac_address c =
     let plant : plant_id c.args.id.now ≡ true = sym c.is_plant_id.ensures ∙ not-false _ c.if-not-is_plant_id.false-raw in
     let a = c.args in
     let mac-fails = sym c.is_mac_address.ensures ∙ not-true _ c.if-not-is_mac_address.true-raw in
-    let both = answered a.out.now (no-mac a.id.now a.mac.now _ _ (plant) mac-fails) in
+    let both = answered a.out.now (no-mac a.id.now a.mac.now _ _ plant mac-fails) in
     record { answer = both.0; buffer = both.1 }
 
 pub returns-then-not-is_segment : goal.returns-then-not-is_segment
@@ -28,7 +28,7 @@ returns-then-not-is_segment c =
     let mac : mac_address c.args.mac.now ≡ true = sym c.is_mac_address.ensures ∙ not-false _ c.if-not-is_mac_address.false-raw in
     let a = c.args in
     let segment-fails = sym c.is_segment.ensures ∙ not-true _ c.if-not-is_segment.true-raw in
-    let both = answered a.out.now (no-segment a.id.now a.mac.now a.segment.now _ (plant) (mac) segment-fails) in
+    let both = answered a.out.now (no-segment a.id.now a.mac.now a.segment.now _ plant mac segment-fails) in
     record { answer = both.0; buffer = both.1 }
 
 pub returns-then-out-lt-REQUEST_LENGTH : goal.returns-then-out-lt-REQUEST_LENGTH
@@ -38,7 +38,7 @@ returns-then-out-lt-REQUEST_LENGTH c =
     let segment : any_segment c.args.segment.now ≡ true = sym c.is_segment.ensures ∙ not-false _ c.if-not-is_segment.false-raw in
     let a = c.args in
     let both = answered a.out.now
-    (no_room a.id.now a.mac.now a.segment.now _ (plant) (mac) (segment) c.if-out-lt-REQUEST_LENGTH.true) in
+    (no_room a.id.now a.mac.now a.segment.now _ plant mac segment c.if-out-lt-REQUEST_LENGTH.true) in
     record { answer = both.0; buffer = both.1 }
 
 pub fill-requires : goal.fill-requires
@@ -46,7 +46,7 @@ fill-requires c =
     let plant : plant_id c.args.id.now ≡ true = sym c.is_plant_id.ensures ∙ not-false _ c.if-not-is_plant_id.false-raw in
     let mac : mac_address c.args.mac.now ≡ true = sym c.is_mac_address.ensures ∙ not-false _ c.if-not-is_mac_address.false-raw in
     let segment : any_segment c.args.segment.now ≡ true = sym c.is_segment.ensures ∙ not-false _ c.if-not-is_segment.false-raw in
-    parts _ _ _ 0 (plant) (mac) (segment) _ c.if-out-lt-REQUEST_LENGTH.false
+    parts _ _ _ 0 plant mac segment _ c.if-out-lt-REQUEST_LENGTH.false
 
 pub returns : goal.returns
 returns c =

@@ -22,49 +22,49 @@ pub write_months-requires : goal.write_months-requires
 write_months-requires c =
     let fields : Fields = let a = c.args in
     fields_of a.format a.plant.now a.schedule.now a.start.now a.next.now a.rates.now a.flag in
-    let decision : (p : Plan) → c.decide-decided.result ≡ p → plan_of (fields) ≡ p = λ p e. sym c.decide-decided.ensures ∙ e in
-    plan-months (fields) _ _ (decision _ c.in-Months.is)
+    let decision : (p : Plan) → c.decide-decided.result ≡ p → plan_of fields ≡ p = λ p e. sym c.decide-decided.ensures ∙ e in
+    plan-months fields _ _ (decision _ c.in-Months.is)
 
 pub overflow_cast-flag : goal.overflow_cast-flag
 overflow_cast-flag c =
     let fields : Fields = let a = c.args in
     fields_of a.format a.plant.now a.schedule.now a.start.now a.next.now a.rates.now a.flag in
-    let decision : (p : Plan) → c.decide-decided.result ≡ p → plan_of (fields) ≡ p = λ p e. sym c.decide-decided.ensures ∙ e in
-    omega (arith, plan-digit (fields) (decision _ c.in-Update.is))
+    let decision : (p : Plan) → c.decide-decided.result ≡ p → plan_of fields ≡ p = λ p e. sym c.decide-decided.ensures ∙ e in
+    omega (arith, plan-digit fields (decision _ c.in-Update.is))
 
 pub write_update-requires : goal.write_update-requires
 write_update-requires c =
     let fields : Fields = let a = c.args in
     fields_of a.format a.plant.now a.schedule.now a.start.now a.next.now a.rates.now a.flag in
-    let decision : (p : Plan) → c.decide-decided.result ≡ p → plan_of (fields) ≡ p = λ p e. sym c.decide-decided.ensures ∙ e in
-    plan-update (fields) (decision _ c.in-Update.is)
+    let decision : (p : Plan) → c.decide-decided.result ≡ p → plan_of fields ≡ p = λ p e. sym c.decide-decided.ensures ∙ e in
+    plan-update fields (decision _ c.in-Update.is)
 
 pub returns-in-Months : goal.returns-in-Months
 returns-in-Months c =
     let fields : Fields = let a = c.args in
     fields_of a.format a.plant.now a.schedule.now a.start.now a.next.now a.rates.now a.flag in
-    let decision : (p : Plan) → c.decide-decided.result ≡ p → plan_of (fields) ≡ p = λ p e. sym c.decide-decided.ensures ∙ e in
+    let decision : (p : Plan) → c.decide-decided.result ≡ p → plan_of fields ≡ p = λ p e. sym c.decide-decided.ensures ∙ e in
     let room : ℕ = length c.args.out.now in
     let months = decision _ c.in-Months.is in
-    let both = same-output c.args.out.now (months-output (fields) (room) months) (c.write_months.ensures.answer, c.write_months.ensures.buffer) in
+    let both = same-output c.args.out.now (months-output fields room months) (c.write_months.ensures.answer, c.write_months.ensures.buffer) in
     record { answer = both.0; buffer = both.1 }
 
 pub returns-in-Update : goal.returns-in-Update
 returns-in-Update c =
     let fields : Fields = let a = c.args in
     fields_of a.format a.plant.now a.schedule.now a.start.now a.next.now a.rates.now a.flag in
-    let decision : (p : Plan) → c.decide-decided.result ≡ p → plan_of (fields) ≡ p = λ p e. sym c.decide-decided.ensures ∙ e in
+    let decision : (p : Plan) → c.decide-decided.result ≡ p → plan_of fields ≡ p = λ p e. sym c.decide-decided.ensures ∙ e in
     let room : ℕ = length c.args.out.now in
     let update = decision _ c.in-Update.is in
-    let both = same-output c.args.out.now (update-output (fields) (room) update) (c.write_update.ensures.answer, c.write_update.ensures.buffer) in
+    let both = same-output c.args.out.now (update-output fields room update) (c.write_update.ensures.answer, c.write_update.ensures.buffer) in
     record { answer = both.0; buffer = both.1 }
 
 pub returns-in-Refused : goal.returns-in-Refused
 returns-in-Refused c =
     let fields : Fields = let a = c.args in
     fields_of a.format a.plant.now a.schedule.now a.start.now a.next.now a.rates.now a.flag in
-    let decision : (p : Plan) → c.decide-decided.result ≡ p → plan_of (fields) ≡ p = λ p e. sym c.decide-decided.ensures ∙ e in
+    let decision : (p : Plan) → c.decide-decided.result ≡ p → plan_of fields ≡ p = λ p e. sym c.decide-decided.ensures ∙ e in
     let room : ℕ = length c.args.out.now in
     let refused = decision _ c.in-Refused.is in
-    let both = same-output c.args.out.now (refused-output (fields) (room) refused) (refl, refl) in
+    let both = same-output c.args.out.now (refused-output fields room refused) (refl, refl) in
     record { answer = both.0; buffer = both.1 }

@@ -28,5 +28,5 @@ returns c =
     let p = c.args.self in
     let b = count_trailing_zeros free_width p.free in
     let cleared = clear-lowest free_width p.free (search rules) (search rules) in
-    let e : p.free - 1 * 2 ^ b % 2 ^ free_width ≡ number block_count (λ ⟦After-struct_known2⟧. is_free p ⟦After-struct_known2⟧ && not (eqb ⟦After-struct_known2⟧ b)) = omega (arith, cleared) in
+    let e : p.free - 1 * 2 ^ b % 2 ^ free_width ≡ number block_count (λ c. is_free p c && not (eqb c b)) = omega (arith, cleared) in
     rw (← trailing-first free_width p.free, lt-ltb _ _ c.if-b-ge-BLOCK_COUNT.false) (cc)

@@ -1,4 +1,4 @@
-use Prim.Native.Nat.{◌≤◌, ◌<◌, ◌+◌, ◌-◌, min, max}
+use Prim.Native.Nat.{◌≤◌, ◌<◌, ◌+◌, min, max}
 use mathlib.Core.Path.{◌≡◌, sym, ap, ◌∙◌}
 use native.Mathlib.Omega.{arith}
 use Rattle.rules.specs.Calendar.{month_of_slot}
@@ -13,7 +13,7 @@ loop-month-init c =
     c.start_month-month.result ≡ min (max a.floor (month_of_slot a.slot)) (end_month a.slot a.count) = let a = c.args in
     c.start_month-month.ensures ∙ ap (min (max a.floor (month_of_slot a.slot))) c.end_month-end.ensures in
     let a = c.args in
-    (omega arith, omega arith, missing-start a.pool a.floor a.slot a.count c.start_month-month.result (start))
+    (omega arith, omega arith, missing-start a.pool a.floor a.slot a.count c.start_month-month.result start)
 
 pub overflow_add-needed : goal.overflow_add-needed
 overflow_add-needed c =

@@ -21,4 +21,4 @@ returns-in-Nothing c =
     let none : let a = c.args in find_of a.pool a.month ≡ Nothing = sym c.find-block.ensures ∙ c.in-Nothing.is in
     let a = c.args in
     let taken = c.take_block.ensures in
-    (taken.0 ∙ open-new a.pool a.month a.store.now (none), taken.1)
+    (taken.0 ∙ open-new a.pool a.month a.store.now none, taken.1)

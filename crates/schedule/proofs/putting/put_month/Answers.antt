@@ -1,5 +1,5 @@
 -- `putting::put_month` meets its contract.
-use Prim.Native.Nat.{suc, ◌+◌, ◌-◌, min, max}
+use Prim.Native.Nat.{suc, ◌+◌, min, max}
 use mathlib.Core.Path.{◌≡◌, ap, ◌∙◌}
 use native.Mathlib.Numerals.{add-one}
 use lib.ListN.{length}
@@ -17,7 +17,7 @@ put_piece-requires c =
     let next = c.first_slot.ensures ∙ ap first_slot (add-one a.month) in
     c.lesser-high.ensures ∙ ap (min (a.slot + length a.rates.now)) next in
     let a = c.args in
-    (c.requires.0, piece-fits a.month a.slot _ _ _ a.rates.now (first-is) (low-is) (high_is) c.if-low-high.true)
+    (c.requires.0, piece-fits a.month a.slot _ _ _ a.rates.now first-is low-is high_is c.if-low-high.true)
 
 pub returns-then-low-high : goal.returns-then-low-high
 returns-then-low-high c =
@@ -29,7 +29,7 @@ returns-then-low-high c =
     c.lesser-high.ensures ∙ ap (min (a.slot + length a.rates.now)) next in
     let a = c.args in
     let held = stored_of a.pool a.store.now in
-    piece_put a.month a.slot _ _ _ a.rates.now (first-is) (low-is) (high_is) a.floor held _
+    piece_put a.month a.slot _ _ _ a.rates.now first-is low-is high_is a.floor held _
     c.if-low-high.true c.put_piece.ensures
 
 pub returns-else-low-high : goal.returns-else-low-high
@@ -42,4 +42,4 @@ returns-else-low-high c =
     c.lesser-high.ensures ∙ ap (min (a.slot + length a.rates.now)) next in
     let a = c.args in
     let held = stored_of a.pool a.store.now in
-    piece-none a.month a.slot _ _ _ a.rates.now (first-is) (low-is) (high_is) c.if-low-high.false a.floor held
+    piece-none a.month a.slot _ _ _ a.rates.now first-is low-is high_is c.if-low-high.false a.floor held

@@ -3,7 +3,7 @@ use Prim.Native.Nat.{ℕ, ◌≤◌, ◌<◌, ◌+◌, ◌*◌}
 use mathlib.Core.Path.{◌≡◌, sym, ap, ◌∙◌}
 use native.Mathlib.Nat.{add-zero}
 use native.Mathlib.Omega.{arith}
-use lib.ListN.{length, length-map}
+use lib.ListN.{length}
 use lib.Seq.{sets}
 use Rattle.rules.specs.Store.{block_count, block_length, no_rate}
 use Rattle.pool.specs.declared.Taken.{Taken}
@@ -43,7 +43,7 @@ returns-in-In c =
       take-opens t.result a.pool a.month a.store.now t.ensures b _ place.is
           (fill-part a.store.now _ (b * block_length) block_length no_rate room c.blank.ensures
           ∙ ap (λ (i : ℕ). sets a.store.now i blank) (sym (add-zero (b * block_length)))),
-      take-block t.result a.pool a.month t.ensures c.requires.1 (long) b place.is,
+      take-block t.result a.pool a.month t.ensures c.requires.1 long b place.is,
     )
 
 pub returns-in-Full : goal.returns-in-Full

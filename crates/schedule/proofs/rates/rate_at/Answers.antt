@@ -22,13 +22,13 @@ overflow_sub-i c =
 pub overflow_mul-b : goal.overflow_mul-b
 overflow_mul-b c =
     let at : find_of c.args.pool c.month_of_slot-month.result ≡ At c.in-At.b = sym c.find.ensures ∙ c.in-At.is in
-    let below : c.in-At.b < block_count = find-below _ _ _ (at) in
+    let below : c.in-At.b < block_count = find-below _ _ _ at in
     omega (arith, below)
 
 pub overflow_add-b : goal.overflow_add-b
 overflow_add-b c =
     let at : find_of c.args.pool c.month_of_slot-month.result ≡ At c.in-At.b = sym c.find.ensures ∙ c.in-At.is in
-    let below : c.in-At.b < block_count = find-below _ _ _ (at) in
+    let below : c.in-At.b < block_count = find-below _ _ _ at in
     omega (arith, below, c.ranges.slot)
 
 pub returns-in-At : goal.returns-in-At

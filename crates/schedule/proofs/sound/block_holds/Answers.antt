@@ -17,7 +17,7 @@ overflow_mul-end c =
 pub slice_bounds-all_lawful-end : goal.slice_bounds-all_lawful-end
 slice_bounds-all_lawful-end c =
     let within : slots_of_day * c.days_of_month.result ≤ length c.args.block.now = omega (arith, c.requires, c.days_of_month.ensures, days-range c.args.month) in
-    sym (length-take-le (slots_of_day * c.days_of_month.result) c.args.block.now (within))
+    sym (length-take-le (slots_of_day * c.days_of_month.result) c.args.block.now within)
 
 pub slice_bounds-all_blank-count : goal.slice_bounds-all_blank-count
 slice_bounds-all_blank-count c =

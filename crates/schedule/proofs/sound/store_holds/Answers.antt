@@ -1,4 +1,3 @@
-use Prim.Native.Nat.{◌-◌}
 use native.Mathlib.Omega.{arith}
 use Rattle.schedule.proofs.StoreLaws.{store-none, store_step, store-end, store_other}
 use Rattle.schedule.proofs.sound.store_holds.Goals as goal

@@ -1,7 +1,6 @@
 -- `script::ask::ask_of` meets its contract: a return for each number of words.
 use mathlib.Core.Path.{◌∙◌, sym, ap}
-use mathlib.Core.Bool.{false}
-use Rattle.script.specs.Ask.{is_silent, ask_one}
+use Rattle.script.specs.Ask.{ask_one}
 use Rattle.script.proofs.AskLaws.{nothing-asked, one_word, two_words, three_words, six_words, other-count}
 use Rattle.script.proofs.ask.ask_of.Goals as goal
 

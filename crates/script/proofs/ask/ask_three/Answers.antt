@@ -15,24 +15,24 @@ pub returns-then-same-2 : goal.returns-then-same-2
 unfolding ask_three
 returns-then-same-2 c =
     let call : List ℕ = c.args.call.now in
-    let not-store : same_bytes (call) store_word ≡ false = sym c.same.ensures ∙ c.if-same.false in
+    let not-store : same_bytes call store_word ≡ false = sym c.same.ensures ∙ c.if-same.false in
     rw (not-store, sym c.same-2.ensures ∙ c.if-same-2.true) refl
 
 pub returns-then-same-3 : goal.returns-then-same-3
 unfolding ask_three
 returns-then-same-3 c =
     let call : List ℕ = c.args.call.now in
-    let not-store : same_bytes (call) store_word ≡ false = sym c.same.ensures ∙ c.if-same.false in
-    let not-take : same_bytes (call) take_word ≡ false = sym c.same-2.ensures ∙ c.if-same-2.false in
+    let not-store : same_bytes call store_word ≡ false = sym c.same.ensures ∙ c.if-same.false in
+    let not-take : same_bytes call take_word ≡ false = sym c.same-2.ensures ∙ c.if-same-2.false in
     rw (not-store, not-take, sym c.same-3.ensures ∙ c.if-same-3.true) refl
 
 pub returns-then-same-4 : goal.returns-then-same-4
 unfolding ask_three
 returns-then-same-4 c =
     let call : List ℕ = c.args.call.now in
-    let not-store : same_bytes (call) store_word ≡ false = sym c.same.ensures ∙ c.if-same.false in
-    let not-take : same_bytes (call) take_word ≡ false = sym c.same-2.ensures ∙ c.if-same-2.false in
-    let not-response : same_bytes (call) response_word ≡ false = sym c.same-3.ensures ∙ c.if-same-3.false in
+    let not-store : same_bytes call store_word ≡ false = sym c.same.ensures ∙ c.if-same.false in
+    let not-take : same_bytes call take_word ≡ false = sym c.same-2.ensures ∙ c.if-same-2.false in
+    let not-response : same_bytes call response_word ≡ false = sym c.same-3.ensures ∙ c.if-same-3.false in
     rw (not-store, not-take, not-response, sym c.same-4.ensures ∙ c.if-same-4.true)
     (c.failure_ask.ensures ∙ cc)
 
@@ -40,10 +40,10 @@ pub returns-then-same-5 : goal.returns-then-same-5
 unfolding ask_three
 returns-then-same-5 c =
     let call : List ℕ = c.args.call.now in
-    let not-store : same_bytes (call) store_word ≡ false = sym c.same.ensures ∙ c.if-same.false in
-    let not-take : same_bytes (call) take_word ≡ false = sym c.same-2.ensures ∙ c.if-same-2.false in
-    let not-response : same_bytes (call) response_word ≡ false = sym c.same-3.ensures ∙ c.if-same-3.false in
-    let not-failure : same_bytes (call) failure_word ≡ false = sym c.same-4.ensures ∙ c.if-same-4.false in
+    let not-store : same_bytes call store_word ≡ false = sym c.same.ensures ∙ c.if-same.false in
+    let not-take : same_bytes call take_word ≡ false = sym c.same-2.ensures ∙ c.if-same-2.false in
+    let not-response : same_bytes call response_word ≡ false = sym c.same-3.ensures ∙ c.if-same-3.false in
+    let not-failure : same_bytes call failure_word ≡ false = sym c.same-4.ensures ∙ c.if-same-4.false in
     rw (
       not-store,
       not-take,
@@ -57,10 +57,10 @@ pub returns : goal.returns
 unfolding ask_three
 returns c =
     let call : List ℕ = c.args.call.now in
-    let not-store : same_bytes (call) store_word ≡ false = sym c.same.ensures ∙ c.if-same.false in
-    let not-take : same_bytes (call) take_word ≡ false = sym c.same-2.ensures ∙ c.if-same-2.false in
-    let not-response : same_bytes (call) response_word ≡ false = sym c.same-3.ensures ∙ c.if-same-3.false in
-    let not-failure : same_bytes (call) failure_word ≡ false = sym c.same-4.ensures ∙ c.if-same-4.false in
+    let not-store : same_bytes call store_word ≡ false = sym c.same.ensures ∙ c.if-same.false in
+    let not-take : same_bytes call take_word ≡ false = sym c.same-2.ensures ∙ c.if-same-2.false in
+    let not-response : same_bytes call response_word ≡ false = sym c.same-3.ensures ∙ c.if-same-3.false in
+    let not-failure : same_bytes call failure_word ≡ false = sym c.same-4.ensures ∙ c.if-same-4.false in
     rw (
       not-store,
       not-take,

@@ -12,19 +12,19 @@ use Rattle.script_fields.proofs.field.either.Goals as goal
 pub slice_bounds-unhex-count : goal.slice_bounds-unhex-count
 slice_bounds-unhex-count c =
     let word : List ℕ = c.args.word.now in
-    let mark-tested : marked (word) ≡ c.is_marked.result = sym c.is_marked.ensures in
-    omega (arith, marked-long (word) (mark-tested ∙ c.if-is_marked.true))
+    let mark-tested : marked word ≡ c.is_marked.result = sym c.is_marked.ensures in
+    omega (arith, marked-long word (mark-tested ∙ c.if-is_marked.true))
 
 pub slice_bounds-unhex-start : goal.slice_bounds-unhex-start
 slice_bounds-unhex-start c =
     let word : List ℕ = c.args.word.now in
-    let mark-tested : marked (word) ≡ c.is_marked.result = sym c.is_marked.ensures in
-    omega (arith, marked-long (word) (mark-tested ∙ c.if-is_marked.true))
+    let mark-tested : marked word ≡ c.is_marked.result = sym c.is_marked.ensures in
+    omega (arith, marked-long word (mark-tested ∙ c.if-is_marked.true))
 
 pub returns-then-is_marked : goal.returns-then-is_marked
 returns-then-is_marked c =
     let word : List ℕ = c.args.word.now in
-    let mark-tested : marked (word) ≡ c.is_marked.result = sym c.is_marked.ensures in
+    let mark-tested : marked word ≡ c.is_marked.result = sym c.is_marked.ensures in
     let a = c.args in
     let s = a.word.now in
     let same = is-hex a.digits s (mark-tested ∙ c.if-is_marked.true) ∙ ap hex_field (sym (part-rest s 4)) in
@@ -34,7 +34,7 @@ returns-then-is_marked c =
 pub returns-then-word-eq0 : goal.returns-then-word-eq0
 returns-then-word-eq0 c =
     let word : List ℕ = c.args.word.now in
-    let mark-tested : marked (word) ≡ c.is_marked.result = sym c.is_marked.ensures in
+    let mark-tested : marked word ≡ c.is_marked.result = sym c.is_marked.ensures in
     let a = c.args in
     let both = says_none a.out.now (no_word a.digits a.word.now (mark-tested ∙ c.if-is_marked.false) c.if-word-eq0.true) in
     record { answer = both.0; buffer = both.1 }
@@ -42,7 +42,7 @@ returns-then-word-eq0 c =
 pub returns-then-out-word : goal.returns-then-out-word
 returns-then-out-word c =
     let word : List ℕ = c.args.word.now in
-    let mark-tested : marked (word) ≡ c.is_marked.result = sym c.is_marked.ensures in
+    let mark-tested : marked word ≡ c.is_marked.result = sym c.is_marked.ensures in
     let a = c.args in
     let s = a.word.now in
     let b = map (plain_byte a.digits) s in
@@ -53,7 +53,7 @@ returns-then-out-word c =
 pub returns : goal.returns
 returns c =
     let word : List ℕ = c.args.word.now in
-    let mark-tested : marked (word) ≡ c.is_marked.result = sym c.is_marked.ensures in
+    let mark-tested : marked word ≡ c.is_marked.result = sym c.is_marked.ensures in
     let a = c.args in
     let s = a.word.now in
     let b = map (plain_byte a.digits) s in

@@ -19,7 +19,7 @@ returns-then-out-count c =
     let digits-held : all_hex c.args.digits.now ≡ true = sym c.is_hex.ensures ∙ not-false _ c.if-not-is_hex.false-raw in
     let a = c.args in
     let s = a.digits.now in
-    let both = says-long a.out.now (hex_bytes s) (hex-some s (digits-held)) (omega (arith, hex-length s)) in
+    let both = says-long a.out.now (hex_bytes s) (hex-some s digits-held) (omega (arith, hex-length s)) in
     record { answer = both.0; buffer = both.1 }
 
 pub put_bytes-requires : goal.put_bytes-requires
@@ -33,6 +33,6 @@ returns c =
     let a = c.args in
     let s = a.digits.now in
     let room = c.if-out-count.false in
-    let both = says-put a.out.now (hex_bytes s) (hex-some s (digits-held)) (sym (hex-length s)) c.put_bytes.ensures
+    let both = says-put a.out.now (hex_bytes s) (hex-some s digits-held) (sym (hex-length s)) c.put_bytes.ensures
     (omega (arith, hex-length s, room)) in
     record { answer = both.0; buffer = both.1 }

@@ -1,9 +1,9 @@
-use Prim.Native.Nat.{ℕ, ◌*◌, ◌/◌, ◌-◌, ◌+◌, ◌<◌}
+use Prim.Native.Nat.{ℕ, ◌*◌, ◌/◌, ◌+◌, ◌<◌}
 use mathlib.Core.Path.{◌≡◌, ◌∙◌, refl, sym, ap}
 use native.Mathlib.Omega.{arith}
 use lib.ListN.{length, get_or, length-set}
 use lib.Seq.{paste, paste-zero}
-use Rattle.script_fields.specs.Hex.{nibble, hex_bytes}
+use Rattle.script_fields.specs.Hex.{hex_bytes}
 use Rattle.script_fields.proofs.HexLaws.{hex-digit, hex-length, hex-byte}
 use Rattle.script_fields.proofs.PutLaws.{put-start}
 use Rattle.script_fields.proofs.hex.put_bytes.Goals as goal

@@ -1,4 +1,3 @@
-use Prim.Native.Nat.{◌-◌}
 use mathlib.Core.Path.{◌∙◌, sym}
 use native.Mathlib.Omega.{arith}
 use Rattle.script_words.proofs.NumberLaws.{none-given, some-given, digit-more, digit-none, digit-last}

@@ -1,4 +1,3 @@
-use Prim.Native.Nat.{◌-◌}
 use mathlib.Core.Path.{◌∙◌, sym, refl}
 use lib.Seq.{length-take-le}
 use Rattle.script_words.proofs.WordLaws.{after-part, word_more, word-ends}

@@ -1,5 +1,4 @@
 -- `script_words::words::word` meets its contract: a word fewer of what is left of the line.
-use Prim.Native.Nat.{◌-◌}
 use mathlib.Core.Path.{◌≡◌}
 use Rattle.script_words.specs.Words.{word_at}
 use Rattle.script_words.proofs.words.word.Given as goal

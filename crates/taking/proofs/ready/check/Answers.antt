@@ -17,20 +17,20 @@ returns-then-not-sound-store_holds c =
     let long : length c.args.store.now ≡ store_length = c.if-store-ne-STORE_LENGTH.false in
     let tested : let a = c.args in
     (c.sound.result && c.store_holds.result) ≡ (is_sound a.unit && store_holds a.unit.pool a.store.now) = ap₂ ◌&&◌ c.sound.ensures c.store_holds.ensures in
-    not_sound _ _ (long) (sym (tested) ∙ not-true _ c.if-not-sound-store_holds.true-raw)
+    not_sound _ _ long (sym tested ∙ not-true _ c.if-not-sound-store_holds.true-raw)
 
 pub returns-in-At : goal.returns-in-At
 returns-in-At c =
     let long : length c.args.store.now ≡ store_length = c.if-store-ne-STORE_LENGTH.false in
     let tested : let a = c.args in
     (c.sound.result && c.store_holds.result) ≡ (is_sound a.unit && store_holds a.unit.pool a.store.now) = ap₂ ◌&&◌ c.sound.ensures c.store_holds.ensures in
-    let good : let a = c.args in (is_sound a.unit && store_holds a.unit.pool a.store.now) ≡ true = sym (tested) ∙ not-false _ c.if-not-sound-store_holds.false-raw in
-    is_set _ _ (long) (good) _ c.in-At.is
+    let good : let a = c.args in (is_sound a.unit && store_holds a.unit.pool a.store.now) ≡ true = sym tested ∙ not-false _ c.if-not-sound-store_holds.false-raw in
+    is_set _ _ long good _ c.in-At.is
 
 pub returns-in-Unset : goal.returns-in-Unset
 returns-in-Unset c =
     let long : length c.args.store.now ≡ store_length = c.if-store-ne-STORE_LENGTH.false in
     let tested : let a = c.args in
     (c.sound.result && c.store_holds.result) ≡ (is_sound a.unit && store_holds a.unit.pool a.store.now) = ap₂ ◌&&◌ c.sound.ensures c.store_holds.ensures in
-    let good : let a = c.args in (is_sound a.unit && store_holds a.unit.pool a.store.now) ≡ true = sym (tested) ∙ not-false _ c.if-not-sound-store_holds.false-raw in
-    not_set _ _ (long) (good) c.in-Unset.is
+    let good : let a = c.args in (is_sound a.unit && store_holds a.unit.pool a.store.now) ≡ true = sym tested ∙ not-false _ c.if-not-sound-store_holds.false-raw in
+    not_set _ _ long good c.in-Unset.is

@@ -14,8 +14,8 @@ slice_bounds-take_checked-count c =
     says-found a.boundary.now a.bytes.now c.find.result c.find.ensures.carried c.find.ensures.inside in
     let found : let a = c.args in let p = c.in-Found in
     FoundAt a.boundary.now a.bytes.now p.name_at p.name_end p.file_at p.file_end = let a = c.args in
-    subst (λ (r : Places). FoundIn a.boundary.now a.bytes.now r) c.in-Found.is (looked-at) in
-    (found).name_later
+    subst (λ (r : Places). FoundIn a.boundary.now a.bytes.now r) c.in-Found.is looked-at in
+    found.name_later
 
 pub slice_bounds-take_checked-start : goal.slice_bounds-take_checked-start
 slice_bounds-take_checked-start c =
@@ -23,8 +23,8 @@ slice_bounds-take_checked-start c =
     says-found a.boundary.now a.bytes.now c.find.result c.find.ensures.carried c.find.ensures.inside in
     let found : let a = c.args in let p = c.in-Found in
     FoundAt a.boundary.now a.bytes.now p.name_at p.name_end p.file_at p.file_end = let a = c.args in
-    subst (λ (r : Places). FoundIn a.boundary.now a.bytes.now r) c.in-Found.is (looked-at) in
-    (found).name_later
+    subst (λ (r : Places). FoundIn a.boundary.now a.bytes.now r) c.in-Found.is looked-at in
+    found.name_later
 
 pub slice_bounds-take_checked-end : goal.slice_bounds-take_checked-end
 slice_bounds-take_checked-end c =
@@ -32,8 +32,8 @@ slice_bounds-take_checked-end c =
     says-found a.boundary.now a.bytes.now c.find.result c.find.ensures.carried c.find.ensures.inside in
     let found : let a = c.args in let p = c.in-Found in
     FoundAt a.boundary.now a.bytes.now p.name_at p.name_end p.file_at p.file_end = let a = c.args in
-    subst (λ (r : Places). FoundIn a.boundary.now a.bytes.now r) c.in-Found.is (looked-at) in
-    (found).name_within
+    subst (λ (r : Places). FoundIn a.boundary.now a.bytes.now r) c.in-Found.is looked-at in
+    found.name_within
 
 pub slice_bounds-take_checked-count-in-Found : goal.slice_bounds-take_checked-count-in-Found
 slice_bounds-take_checked-count-in-Found c =
@@ -41,8 +41,8 @@ slice_bounds-take_checked-count-in-Found c =
     says-found a.boundary.now a.bytes.now c.find.result c.find.ensures.carried c.find.ensures.inside in
     let found : let a = c.args in let p = c.in-Found in
     FoundAt a.boundary.now a.bytes.now p.name_at p.name_end p.file_at p.file_end = let a = c.args in
-    subst (λ (r : Places). FoundIn a.boundary.now a.bytes.now r) c.in-Found.is (looked-at) in
-    (found).file_later
+    subst (λ (r : Places). FoundIn a.boundary.now a.bytes.now r) c.in-Found.is looked-at in
+    found.file_later
 
 pub slice_bounds-take_checked-start-in-Found : goal.slice_bounds-take_checked-start-in-Found
 slice_bounds-take_checked-start-in-Found c =
@@ -50,8 +50,8 @@ slice_bounds-take_checked-start-in-Found c =
     says-found a.boundary.now a.bytes.now c.find.result c.find.ensures.carried c.find.ensures.inside in
     let found : let a = c.args in let p = c.in-Found in
     FoundAt a.boundary.now a.bytes.now p.name_at p.name_end p.file_at p.file_end = let a = c.args in
-    subst (λ (r : Places). FoundIn a.boundary.now a.bytes.now r) c.in-Found.is (looked-at) in
-    (found).file_later
+    subst (λ (r : Places). FoundIn a.boundary.now a.bytes.now r) c.in-Found.is looked-at in
+    found.file_later
 
 pub slice_bounds-take_checked-end-in-Found : goal.slice_bounds-take_checked-end-in-Found
 slice_bounds-take_checked-end-in-Found c =
@@ -59,8 +59,8 @@ slice_bounds-take_checked-end-in-Found c =
     says-found a.boundary.now a.bytes.now c.find.result c.find.ensures.carried c.find.ensures.inside in
     let found : let a = c.args in let p = c.in-Found in
     FoundAt a.boundary.now a.bytes.now p.name_at p.name_end p.file_at p.file_end = let a = c.args in
-    subst (λ (r : Places). FoundIn a.boundary.now a.bytes.now r) c.in-Found.is (looked-at) in
-    (found).file_within
+    subst (λ (r : Places). FoundIn a.boundary.now a.bytes.now r) c.in-Found.is looked-at in
+    found.file_within
 
 pub take_checked-requires : goal.take_checked-requires
 take_checked-requires c =
@@ -78,8 +78,8 @@ returns-in-Broken c =
     says-found a.boundary.now a.bytes.now c.find.result c.find.ensures.carried c.find.ensures.inside in
     let ready : let a = c.args in Checked a.unit a.store.now c.in-At.t = checked _ _ _ (sym c.check.ensures ∙ c.in-At.is) in
     let a = c.args in
-    let broken = subst (λ (r : Places). FoundIn a.boundary.now a.bytes.now r) c.in-Broken.is (looked-at) in
-    let r = response-broken _ _ _ (ready) _ _ broken in
+    let broken = subst (λ (r : Places). FoundIn a.boundary.now a.bytes.now r) c.in-Broken.is looked-at in
+    let r = response-broken _ _ _ ready _ _ broken in
     record { answer = c.refuse-in-Broken.ensures ∙ r.0; kept = r.1 }
 
 pub returns-in-Found : goal.returns-in-Found
@@ -89,6 +89,6 @@ returns-in-Found c =
     says-found a.boundary.now a.bytes.now c.find.result c.find.ensures.carried c.find.ensures.inside in
     let found : let a = c.args in let p = c.in-Found in
     FoundAt a.boundary.now a.bytes.now p.name_at p.name_end p.file_at p.file_end = let a = c.args in
-    subst (λ (r : Places). FoundIn a.boundary.now a.bytes.now r) c.in-Found.is (looked-at) in
-    let both = response-carried _ _ _ (ready) _ _ _ _ (found).parsed _ _ (c.take_checked.ensures.answer, c.take_checked.ensures.kept) in
+    subst (λ (r : Places). FoundIn a.boundary.now a.bytes.now r) c.in-Found.is looked-at in
+    let both = response-carried _ _ _ ready _ _ _ _ found.parsed _ _ (c.take_checked.ensures.answer, c.take_checked.ensures.kept) in
     record { answer = both.0; kept = both.1 }

@@ -12,26 +12,26 @@ returns-then-free_count-needed c =
     reading_of (take_file a.unit.plant.id a.name.now a.body.now) ≡ Read c.in-Read.summary = sym c.read_to_take.ensures ∙ c.in-Read.is in
     let free = c.free_count.ensures in
     let needed = c.missing-needed.ensures in
-    let r = take-full _ _ _ c.requires _ _ _ (got) _ _ free needed c.if-free_count-needed.true in
+    let r = take-full _ _ _ c.requires _ _ _ got _ _ free needed c.if-free_count-needed.true in
     record { answer = c.refuse-then-free_count-needed.ensures ∙ r.0; kept = r.1 }
 
 pub slice_bounds-put_records-count : goal.slice_bounds-put_records-count
 slice_bounds-put_records-count c =
     let got : let a = c.args in
     reading_of (take_file a.unit.plant.id a.name.now a.body.now) ≡ Read c.in-Read.summary = sym c.read_to_take.ensures ∙ c.in-Read.is in
-    read-room _ _ _ _ (got)
+    read-room _ _ _ _ got
 
 pub slice_bounds-put_records-start : goal.slice_bounds-put_records-start
 slice_bounds-put_records-start c =
     let got : let a = c.args in
     reading_of (take_file a.unit.plant.id a.name.now a.body.now) ≡ Read c.in-Read.summary = sym c.read_to_take.ensures ∙ c.in-Read.is in
-    read-room _ _ _ _ (got)
+    read-room _ _ _ _ got
 
 pub put_records-pool-requires : goal.put_records-pool-requires
 put_records-pool-requires c =
     let got : let a = c.args in
     reading_of (take_file a.unit.plant.id a.name.now a.body.now) ≡ Read c.in-Read.summary = sym c.read_to_take.ensures ∙ c.in-Read.is in
-    read-following _ _ _ _ (got)
+    read-following _ _ _ _ got
 
 pub returns-in-Refused : goal.returns-in-Refused
 returns-in-Refused c =
@@ -46,5 +46,5 @@ returns-else-free_count-needed c =
     let needed = c.missing-needed.ensures in
     let requests = c.take_requests.ensures in
     let records = c.put_records-pool.ensures in
-    let r = take_done _ _ _ c.requires _ _ _ (got) _ _ free needed c.if-free_count-needed.false _ _ _ records requests in
+    let r = take_done _ _ _ c.requires _ _ _ got _ _ free needed c.if-free_count-needed.false _ _ _ records requests in
     record { answer = c.filed.ensures ∙ r.0; kept = r.1 }

@@ -17,31 +17,31 @@ returns-then-not-sound-store_holds c =
     let long : length c.args.store.now ≡ store_length = c.if-store-ne-STORE_LENGTH.false in
     let tested : let a = c.args in
     (c.sound.result && c.store_holds.result) ≡ (is_sound a.self && store_holds a.self.pool a.store.now) = ap₂ ◌&&◌ c.sound.ensures c.store_holds.ensures in
-    sym (ceiling-unsound _ _ _ (long) (sym (tested) ∙ not-true _ c.if-not-sound-store_holds.true-raw))
+    sym (ceiling-unsound _ _ _ long (sym tested ∙ not-true _ c.if-not-sound-store_holds.true-raw))
 
 pub returns-in_default : goal.returns-in_default
 returns-in_default c =
     let long : length c.args.store.now ≡ store_length = c.if-store-ne-STORE_LENGTH.false in
     let tested : let a = c.args in
     (c.sound.result && c.store_holds.result) ≡ (is_sound a.self && store_holds a.self.pool a.store.now) = ap₂ ◌&&◌ c.sound.ensures c.store_holds.ensures in
-    let good : let a = c.args in (is_sound a.self && store_holds a.self.pool a.store.now) ≡ true = sym (tested) ∙ not-false _ c.if-not-sound-store_holds.false-raw in
-    sym (ceiling-unset _ _ _ (long) (good) c.in_default.is)
+    let good : let a = c.args in (is_sound a.self && store_holds a.self.pool a.store.now) ≡ true = sym tested ∙ not-false _ c.if-not-sound-store_holds.false-raw in
+    sym (ceiling-unset _ _ _ long good c.in_default.is)
 
 pub returns-then-slot-ge-SLOT_COUNT : goal.returns-then-slot-ge-SLOT_COUNT
 returns-then-slot-ge-SLOT_COUNT c =
     let long : length c.args.store.now ≡ store_length = c.if-store-ne-STORE_LENGTH.false in
     let tested : let a = c.args in
     (c.sound.result && c.store_holds.result) ≡ (is_sound a.self && store_holds a.self.pool a.store.now) = ap₂ ◌&&◌ c.sound.ensures c.store_holds.ensures in
-    let good : let a = c.args in (is_sound a.self && store_holds a.self.pool a.store.now) ≡ true = sym (tested) ∙ not-false _ c.if-not-sound-store_holds.false-raw in
-    sym (ceiling-range _ _ _ (long) (good) _ c.in-At.is c.if-slot-ge-SLOT_COUNT.true)
+    let good : let a = c.args in (is_sound a.self && store_holds a.self.pool a.store.now) ≡ true = sym tested ∙ not-false _ c.if-not-sound-store_holds.false-raw in
+    sym (ceiling-range _ _ _ long good _ c.in-At.is c.if-slot-ge-SLOT_COUNT.true)
 
 pub returns-in-Rated : goal.returns-in-Rated
 returns-in-Rated c =
     let long : length c.args.store.now ≡ store_length = c.if-store-ne-STORE_LENGTH.false in
     let tested : let a = c.args in
     (c.sound.result && c.store_holds.result) ≡ (is_sound a.self && store_holds a.self.pool a.store.now) = ap₂ ◌&&◌ c.sound.ensures c.store_holds.ensures in
-    let good : let a = c.args in (is_sound a.self && store_holds a.self.pool a.store.now) ≡ true = sym (tested) ∙ not-false _ c.if-not-sound-store_holds.false-raw in
-    ceiling-rated _ _ _ (long) (good) _ c.in-At.is c.if-slot-ge-SLOT_COUNT.false _ _
+    let good : let a = c.args in (is_sound a.self && store_holds a.self.pool a.store.now) ≡ true = sym tested ∙ not-false _ c.if-not-sound-store_holds.false-raw in
+    ceiling-rated _ _ _ long good _ c.in-At.is c.if-slot-ge-SLOT_COUNT.false _ _
     (sym c.of_slot.ensures ∙ c.in-Rated.is)
 
 pub returns-in-NoRate : goal.returns-in-NoRate
@@ -49,6 +49,6 @@ returns-in-NoRate c =
     let long : length c.args.store.now ≡ store_length = c.if-store-ne-STORE_LENGTH.false in
     let tested : let a = c.args in
     (c.sound.result && c.store_holds.result) ≡ (is_sound a.self && store_holds a.self.pool a.store.now) = ap₂ ◌&&◌ c.sound.ensures c.store_holds.ensures in
-    let good : let a = c.args in (is_sound a.self && store_holds a.self.pool a.store.now) ≡ true = sym (tested) ∙ not-false _ c.if-not-sound-store_holds.false-raw in
-    ceiling-none _ _ _ (long) (good) _ c.in-At.is c.if-slot-ge-SLOT_COUNT.false
+    let good : let a = c.args in (is_sound a.self && store_holds a.self.pool a.store.now) ≡ true = sym tested ∙ not-false _ c.if-not-sound-store_holds.false-raw in
+    ceiling-none _ _ _ long good _ c.in-At.is c.if-slot-ge-SLOT_COUNT.false
     (sym c.of_slot.ensures ∙ c.in-NoRate.is)

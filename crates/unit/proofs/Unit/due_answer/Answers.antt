@@ -12,9 +12,9 @@ returns-then-not-sound c = sym (due-unsound _ (sym c.sound.ensures ∙ not-true 
 pub returns-in_default : goal.returns-in_default
 returns-in_default c =
     let good : is_sound c.args.self ≡ true = sym c.sound.ensures ∙ not-false _ c.if-not-sound.false-raw in
-    sym (due-unset _ (good) c.in_default.is)
+    sym (due-unset _ good c.in_default.is)
 
 pub returns : goal.returns
 returns c =
     let good : is_sound c.args.self ≡ true = sym c.sound.ensures ∙ not-false _ c.if-not-sound.false-raw in
-    c.due.ensures ∙ sym (due-done _ (good) _ c.in-At.is _ c.check_digit.ensures)
+    c.due.ensures ∙ sym (due-done _ good _ c.in-At.is _ c.check_digit.ensures)

@@ -21,22 +21,22 @@ returns-then-not-sound-store_holds c =
     let long : length c.args.store.now ≡ store_length = c.if-store-ne-STORE_LENGTH.false in
     let tested : let a = c.args in
     (c.sound.result && c.store_holds.result) ≡ (is_sound a.self && store_holds a.self.pool a.store.now) = ap₂ ◌&&◌ c.sound.ensures c.store_holds.ensures in
-    c.refuse-then-not-sound-store_holds.ensures ∙ sym (tick-unsound _ _ _ (long) (sym (tested) ∙ not-true _ c.if-not-sound-store_holds.true-raw))
+    c.refuse-then-not-sound-store_holds.ensures ∙ sym (tick-unsound _ _ _ long (sym tested ∙ not-true _ c.if-not-sound-store_holds.true-raw))
 
 pub returns-then-t : goal.returns-then-t
 returns-then-t c =
     let long : length c.args.store.now ≡ store_length = c.if-store-ne-STORE_LENGTH.false in
     let tested : let a = c.args in
     (c.sound.result && c.store_holds.result) ≡ (is_sound a.self && store_holds a.self.pool a.store.now) = ap₂ ◌&&◌ c.sound.ensures c.store_holds.ensures in
-    let good : let a = c.args in (is_sound a.self && store_holds a.self.pool a.store.now) ≡ true = sym (tested) ∙ not-false _ c.if-not-sound-store_holds.false-raw in
-    c.refuse-then-t.ensures ∙ sym (tick-range _ _ _ (long) (good) (omega (arith, c.if-t.true)))
+    let good : let a = c.args in (is_sound a.self && store_holds a.self.pool a.store.now) ≡ true = sym tested ∙ not-false _ c.if-not-sound-store_holds.false-raw in
+    c.refuse-then-t.ensures ∙ sym (tick-range _ _ _ long good (omega (arith, c.if-t.true)))
 
 pub returns : goal.returns
 returns c =
     let long : length c.args.store.now ≡ store_length = c.if-store-ne-STORE_LENGTH.false in
     let tested : let a = c.args in
     (c.sound.result && c.store_holds.result) ≡ (is_sound a.self && store_holds a.self.pool a.store.now) = ap₂ ◌&&◌ c.sound.ensures c.store_holds.ensures in
-    let good : let a = c.args in (is_sound a.self && store_holds a.self.pool a.store.now) ≡ true = sym (tested) ∙ not-false _ c.if-not-sound-store_holds.false-raw in
+    let good : let a = c.args in (is_sound a.self && store_holds a.self.pool a.store.now) ≡ true = sym tested ∙ not-false _ c.if-not-sound-store_holds.false-raw in
     let a = c.args in
     ap (λ (v : Unit). record { unit = v; answer = Answer.Accepted }) (c.set_clock.ensures ∙ ap (jumped a.self a.t) c.command_at-command.ensures)
-    ∙ sym (tick-done _ _ _ (long) (good) (omega (arith, c.if-t.false)))
+    ∙ sym (tick-done _ _ _ long good (omega (arith, c.if-t.false)))

@@ -1,4 +1,3 @@
-use Prim.Native.Nat.{◌-◌}
 use native.Mathlib.Omega.{arith}
 use Rattle.calendar.proofs.Laws.{days-range}
 use Rattle.writer.proofs.Months.{months-start, months-end, part-within, month-room, place-within, months-step}
