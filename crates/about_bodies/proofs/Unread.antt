@@ -27,8 +27,8 @@ module _ (plant ident start next next' rates : List ℕ) (flag flag' room : ℕ)
   unfolding write_body format_of digits_fit months_fit field_records
   monthly = rw (or-true (leb flag 9 || false), or-true (leb flag' 9 || false), same-records 202 1 (month_at start)) refl
 
-pub not-looked_at : NotLookedAt
-not-looked_at format plant ident start next next' rates flag flag' room e = go (eqb format 201) refl (eqb format 202) refl e
+pub not-looked-at : NotLookedAt
+not-looked-at format plant ident start next next' rates flag flag' room e = go (eqb format 201) refl (eqb format 202) refl e
   where
     go : (a : Bool) → eqb format 201 ≡ a → (b : Bool) → eqb format 202 ≡ b → (a || b) ≡ true
         → write_body (fields_of format plant ident start next rates flag) room ≡ write_body (fields_of format plant ident start next' rates flag') room

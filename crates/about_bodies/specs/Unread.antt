@@ -1,5 +1,5 @@
 -- 'For 201 and 202 flag and next access are not looked at' (01, Beside the unit).
--- Proved in proofs/Unread.antt: `not-looked_at`.
+-- Proved in proofs/Unread.antt: `not-looked-at`.
 use Rattle.std.specs.Prelude.{ℕ, ◌≡◌, true, ◌||◌, List, eqb}
 use Rattle.rules.specs.Writer.{write_body}
 use Rattle.plan.specs.Fields.{fields_of}

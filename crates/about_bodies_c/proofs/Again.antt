@@ -34,7 +34,7 @@ use Rattle.c_bodies.specs.declared.RecordPlaces.{RecordPlaces}
 use Rattle.c_bodies.specs.Bodies.{locate_by, rates_by}
 use Rattle.about_bodies.specs.Again.{fields_again}
 use Rattle.about_bodies.proofs.Records.{places-found, places-hold}
-use Rattle.about_bodies.proofs.Unread.{not-looked_at}
+use Rattle.about_bodies.proofs.Unread.{not-looked-at}
 use Rattle.about_bodies.proofs.Again.{format-of, record_is, record-count, count-is, body-again}
 use Rattle.about_bodies_c.specs.Again.{places, copied, fields_from_c, Again, AgainFrom, BodyAgainFromC}
 
@@ -84,9 +84,9 @@ same-written : (f : Format) (plant plant' ident ident' start start' next next' r
     → plant ≡ plant' → ident ≡ ident' → start ≡ start' → (f ≡ F203 → next ≡ next') → rates ≡ rates'
     → write_body (fields_of (format_number f) plant ident start next rates flag) room ≡ write_body (fields_of (format_number f) plant' ident' start' next' rates' flag) room
 same-written F201 plant plant' ident ident' start start' next next' rates rates' flag room i p s t n r =
-    rw (p, s, t, r) (not-looked_at 201 plant' ident' start' next next' rates' flag flag room refl)
+    rw (p, s, t, r) (not-looked-at 201 plant' ident' start' next next' rates' flag flag room refl)
 same-written F202 plant plant' ident ident' start start' next next' rates rates' flag room i p s t n r =
-    rw (p, s, t, r) (not-looked_at 202 plant' ident' start' next next' rates' flag flag room refl)
+    rw (p, s, t, r) (not-looked-at 202 plant' ident' start' next next' rates' flag flag room refl)
 same-written F203 plant plant' ident ident' start start' next next' rates rates' flag room i p s t n r = rw (p, s, t, r, n refl) refl
 same-written F301 plant plant' ident ident' start start' next next' rates rates' flag room i p s t n r = absurd (false≢true i)
 

@@ -21,7 +21,7 @@ use Rattle.pool.specs.Below.{sum_below}
 use Rattle.pool.specs.Blocks.{free_count}
 use Rattle.pool.specs.Held.{held_of}
 use Rattle.polling.specs.Requests.{requests_of, requests_from}
-use Rattle.polling.proofs.DueLaws.{due-as_machine}
+use Rattle.polling.proofs.DueLaws.{due-as-machine}
 use Rattle.about_store.specs.Agrees.{Agrees}
 use Rattle.about_store.proofs.Laws.{same-agrees, store-sound, rate-agrees, free-agrees}
 use Rattle.unit.specs.Values.{clock_of, is_sound, fresh_pool}
@@ -130,7 +130,7 @@ module _ (p : Plant) (valid : valid_plant p ≡ true) (n : ℕ) where
             let d = last_digit p.id in
             let same = ap₂ (λ (r : Plant) q. Rattle.rules.specs.Machine.due_of (settings_of r) d t q) h.plant h.requests in
             sim_by p n _ _ _ _
-            (ap (λ (r : Reply). (r, s)) (ap of_due (due-done u good t e d digit-same) ∙ due-as_machine _ _ t _ ∙ same))
+            (ap (λ (r : Reply). (r, s)) (ap of_due (due-done u good t e d digit-same) ∙ due-as-machine _ _ t _ ∙ same))
             (machine.due-set w M t (clock-some t e)) (refl, h)
 
     -- ---- failure reported

@@ -1,7 +1,7 @@
 // The lister (01, Beside the unit), a program: prints the line of what standard input holds.
 #![tactic(auto)]
 
-ghost use Rattle.std.specs.Prelude.{◌≡◌, ◌≤◌, length};
+ghost use Rattle.std.specs.Prelude.{take, ◌≡◌, ◌≤◌, length};
 ghost use Rattle.listing.specs.Bound.{enough};
 
 use std::io::Read;
@@ -34,7 +34,8 @@ fn most() -> usize
 // Reads standard input to its end, or as many bytes of it. A read that fails is not the end.
 fn read_input<R: Read>(input: &mut R, room: &mut [u8], most: usize) -> Input
     requires { most ≤ length room.old }
-    ensures { result.count ≤ length room.new }
+    ensures bound { result.count ≤ length room.new }
+    ensures taken { result.count ≡ length (take result.count room.new) }
 {
     let mut count = 0;
     while count < most {

@@ -13,6 +13,6 @@ picked true b w = refl
 picked false true w = refl
 picked false false w = refl
 
-pub due-as_machine : DueAsMachine
+pub due-as-machine : DueAsMachine
 unfolding due_for due_of
-due-as_machine s d t q = picked (leb q.update_at t) (asks_fixed s d t q) q.wanted_flag
+due-as-machine s d t q = picked (leb q.update_at t) (asks_fixed s d t q) q.wanted_flag

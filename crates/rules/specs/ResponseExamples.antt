@@ -16,7 +16,7 @@ use Rattle.rules.specs.RowExamples.{number_by, judged, name_for, update_name, up
 
 -- ---- pieces
 
--- a boundary, `a_b9`
+-- a boundary, `aB9`
 abbrev edge : List ℕ
 edge = 97 ∷ 66 ∷ 57 ∷ []
 
@@ -187,7 +187,7 @@ response_table =
     ∷ []
 
 -- each response carries what 02 says, or is refused with the cause that it says
-pub responses-hold : all_hold response_table ≡ true
+pub responses_hold : all_hold response_table ≡ true
 unfolding response_table edge_of carries carried caused judged number_by name_for update plant_x all_hold first_of taken_rows response_rows
     all_at_most all_ascii value_from decimal same_bytes
     days_of_month first_day exists seconds_of start_slot
@@ -196,4 +196,4 @@ unfolding response_table edge_of carries carried caused judged number_by name_fo
     rates_of size_of record_shape record_at parse_records counted parse_body encode_record encode_records encode_body every
     update_dates dates_hold rates_hold sum checksum_of checksums_hold plants_hold
     all_letters lawful_boundary begins lines_with behind length_in strip line_of headers_of end_in read_response parse_response
-responses-hold = refl
+responses_hold = refl

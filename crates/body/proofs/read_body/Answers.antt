@@ -14,23 +14,23 @@ pub slice_bounds-s-count : goal.slice_bounds-s-count
 slice_bounds-s-count c =
     let count_held : let a = c.args in
     counted a.format a.body.now ≡ true = sym c.count_holds.ensures ∙ not-false _ c.if-not-count_holds.false-raw in
-    count_room _ _ (count_held)
+    count_room _ _ count_held
 
 pub slice_bounds-s-start : goal.slice_bounds-s-start
 slice_bounds-s-start c =
     let count_held : let a = c.args in
     counted a.format a.body.now ≡ true = sym c.count_holds.ensures ∙ not-false _ c.if-not-count_holds.false-raw in
-    count_room _ _ (count_held)
+    count_room _ _ count_held
 
 pub returns-then-is_schedule : goal.returns-then-is_schedule
 returns-then-is_schedule c =
     let count_held : let a = c.args in
     counted a.format a.body.now ≡ true = sym c.count_holds.ensures ∙ not-false _ c.if-not-count_holds.false-raw in
-    c.read_schedule.ensures ∙ with-count _ _ _ (sym (count_held))
+    c.read_schedule.ensures ∙ with-count _ _ _ (sym count_held)
 
 pub returns : goal.returns
 returns c =
     let count_held : let a = c.args in
     counted a.format a.body.now ≡ true = sym c.count_holds.ensures ∙ not-false _ c.if-not-count_holds.false-raw in
     let no-schedule = sym c.is_schedule.ensures ∙ c.if-is_schedule.false in
-    c.read_registration.ensures ∙ with-registration _ _ _ _ no-schedule (sym (count_held))
+    c.read_registration.ensures ∙ with-registration _ _ _ _ no-schedule (sym count_held)

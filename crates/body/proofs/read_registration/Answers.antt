@@ -13,19 +13,19 @@ returns-then-not-registration_stands c = no-registration _ _ _ (sym c.registrati
 pub slice_bounds-same-end : goal.slice_bounds-same-end
 slice_bounds-same-end c =
     let formed : registered c.args.s.now ≡ true = sym c.registration_stands.ensures ∙ not-false _ c.if-not-registration_stands.false-raw in
-    omega (arith, registered-length _ (formed))
+    omega (arith, registered-length _ formed)
 
 pub returns-then-not-same : goal.returns-then-not-same
 returns-then-not-same c =
     let formed : registered c.args.s.now ≡ true = sym c.registration_stands.ensures ∙ not-false _ c.if-not-registration_stands.false-raw in
-    no-registered-plant _ _ _ (formed) (sym (not-true _ c.if-not-same.true-raw) ∙ c.same.ensures)
+    no-registered-plant _ _ _ formed (sym (not-true _ c.if-not-same.true-raw) ∙ c.same.ensures)
 
 pub bounds-s-26 : goal.bounds-s-26
 bounds-s-26 c =
     let formed : registered c.args.s.now ≡ true = sym c.registration_stands.ensures ∙ not-false _ c.if-not-registration_stands.false-raw in
-    omega (arith, registered-length _ (formed))
+    omega (arith, registered-length _ formed)
 
 pub returns : goal.returns
 returns c =
     let formed : registered c.args.s.now ≡ true = sym c.registration_stands.ensures ∙ not-false _ c.if-not-registration_stands.false-raw in
-    registered-plant _ _ _ (formed) (sym (not-false _ c.if-not-same.false-raw) ∙ c.same.ensures)
+    registered-plant _ _ _ formed (sym (not-false _ c.if-not-same.false-raw) ∙ c.same.ensures)

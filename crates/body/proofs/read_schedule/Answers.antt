@@ -24,7 +24,7 @@ dates_hold-requires c =
 pub returns-then-not-dates_hold : goal.returns-then-not-dates_hold
 returns-then-not-dates_hold c =
     let formed : let a = c.args in shaped a.format (count_of a.format) a.s.now ≡ true = sym c.records_stand.ensures ∙ not-false _ c.if-not-records_stand.false-raw in
-    no-dates _ _ _ _ c.requires (formed) (sym (not-true _ c.if-not-dates_hold.true-raw) ∙ c.dates_hold.ensures)
+    no-dates _ _ _ _ c.requires formed (sym (not-true _ c.if-not-dates_hold.true-raw) ∙ c.dates_hold.ensures)
 
 pub records_hold-requires : goal.records_hold-requires
 records_hold-requires c =
@@ -35,8 +35,8 @@ pub returns-then-not-records_hold : goal.returns-then-not-records_hold
 returns-then-not-records_hold c =
     let formed : let a = c.args in shaped a.format (count_of a.format) a.s.now ≡ true = sym c.records_stand.ensures ∙ not-false _ c.if-not-records_stand.false-raw in
     let records : List Record = records_from c.args.format (count_of c.args.format) c.args.s.now in
-    let dated : let a = c.args in true ≡ record_dates (name_of a.format a.segment []) a.format (records) = sym (not-false _ c.if-not-dates_hold.false-raw) ∙ c.dates_hold.ensures in
-    no-rates _ _ _ _ c.requires (formed) (dated) (sym (not-true _ c.if-not-records_hold.true-raw) ∙ c.records_hold.ensures)
+    let dated : let a = c.args in true ≡ record_dates (name_of a.format a.segment []) a.format records = sym (not-false _ c.if-not-dates_hold.false-raw) ∙ c.dates_hold.ensures in
+    no-rates _ _ _ _ c.requires formed dated (sym (not-true _ c.if-not-records_hold.true-raw) ∙ c.records_hold.ensures)
 
 pub records_hold-requires-2 : goal.records_hold-requires-2
 records_hold-requires-2 c =
@@ -47,10 +47,10 @@ pub returns-then-not-records_hold-2 : goal.returns-then-not-records_hold-2
 returns-then-not-records_hold-2 c =
     let formed : let a = c.args in shaped a.format (count_of a.format) a.s.now ≡ true = sym c.records_stand.ensures ∙ not-false _ c.if-not-records_stand.false-raw in
     let records : List Record = records_from c.args.format (count_of c.args.format) c.args.s.now in
-    let dated : let a = c.args in true ≡ record_dates (name_of a.format a.segment []) a.format (records) = sym (not-false _ c.if-not-dates_hold.false-raw) ∙ c.dates_hold.ensures in
-    let passes : Stage → Bool = λ stage. every (holds stage c.args.plant.now) (records) in
+    let dated : let a = c.args in true ≡ record_dates (name_of a.format a.segment []) a.format records = sym (not-false _ c.if-not-dates_hold.false-raw) ∙ c.dates_hold.ensures in
+    let passes : Stage → Bool = λ stage. every (holds stage c.args.plant.now) records in
     let rated : true ≡ passes Rates = sym (not-false _ c.if-not-records_hold.false-raw) ∙ c.records_hold.ensures in
-    no-checksum _ _ _ _ c.requires (formed) (dated) (rated) (sym (not-true _ c.if-not-records_hold-2.true-raw) ∙ c.records_hold-2.ensures)
+    no-checksum _ _ _ _ c.requires formed dated rated (sym (not-true _ c.if-not-records_hold-2.true-raw) ∙ c.records_hold-2.ensures)
 
 pub records_hold-requires-3 : goal.records_hold-requires-3
 records_hold-requires-3 c =
@@ -61,27 +61,27 @@ pub returns-then-not-records_hold-3 : goal.returns-then-not-records_hold-3
 returns-then-not-records_hold-3 c =
     let formed : let a = c.args in shaped a.format (count_of a.format) a.s.now ≡ true = sym c.records_stand.ensures ∙ not-false _ c.if-not-records_stand.false-raw in
     let records : List Record = records_from c.args.format (count_of c.args.format) c.args.s.now in
-    let dated : let a = c.args in true ≡ record_dates (name_of a.format a.segment []) a.format (records) = sym (not-false _ c.if-not-dates_hold.false-raw) ∙ c.dates_hold.ensures in
-    let passes : Stage → Bool = λ stage. every (holds stage c.args.plant.now) (records) in
+    let dated : let a = c.args in true ≡ record_dates (name_of a.format a.segment []) a.format records = sym (not-false _ c.if-not-dates_hold.false-raw) ∙ c.dates_hold.ensures in
+    let passes : Stage → Bool = λ stage. every (holds stage c.args.plant.now) records in
     let rated : true ≡ passes Rates = sym (not-false _ c.if-not-records_hold.false-raw) ∙ c.records_hold.ensures in
     let summed : true ≡ passes Checksums = sym (not-false _ c.if-not-records_hold-2.false-raw) ∙ c.records_hold-2.ensures in
-    no-plant _ _ _ _ c.requires (formed) (dated) (rated) (summed) (sym (not-true _ c.if-not-records_hold-3.true-raw) ∙ c.records_hold-3.ensures)
+    no-plant _ _ _ _ c.requires formed dated rated summed (sym (not-true _ c.if-not-records_hold-3.true-raw) ∙ c.records_hold-3.ensures)
 
 pub schedule_summary-requires : goal.schedule_summary-requires
 schedule_summary-requires c =
     let formed : let a = c.args in shaped a.format (count_of a.format) a.s.now ≡ true = sym c.records_stand.ensures ∙ not-false _ c.if-not-records_stand.false-raw in
     let records : List Record = records_from c.args.format (count_of c.args.format) c.args.s.now in
-    let dated : let a = c.args in true ≡ record_dates (name_of a.format a.segment []) a.format (records) = sym (not-false _ c.if-not-dates_hold.false-raw) ∙ c.dates_hold.ensures in
+    let dated : let a = c.args in true ≡ record_dates (name_of a.format a.segment []) a.format records = sym (not-false _ c.if-not-dates_hold.false-raw) ∙ c.dates_hold.ensures in
     record { scheduled = c.requires; formed = formed; dated = sym dated }
 
 pub returns : goal.returns
 returns c =
     let formed : let a = c.args in shaped a.format (count_of a.format) a.s.now ≡ true = sym c.records_stand.ensures ∙ not-false _ c.if-not-records_stand.false-raw in
     let records : List Record = records_from c.args.format (count_of c.args.format) c.args.s.now in
-    let dated : let a = c.args in true ≡ record_dates (name_of a.format a.segment []) a.format (records) = sym (not-false _ c.if-not-dates_hold.false-raw) ∙ c.dates_hold.ensures in
-    let passes : Stage → Bool = λ stage. every (holds stage c.args.plant.now) (records) in
+    let dated : let a = c.args in true ≡ record_dates (name_of a.format a.segment []) a.format records = sym (not-false _ c.if-not-dates_hold.false-raw) ∙ c.dates_hold.ensures in
+    let passes : Stage → Bool = λ stage. every (holds stage c.args.plant.now) records in
     let rated : true ≡ passes Rates = sym (not-false _ c.if-not-records_hold.false-raw) ∙ c.records_hold.ensures in
     let summed : true ≡ passes Checksums = sym (not-false _ c.if-not-records_hold-2.false-raw) ∙ c.records_hold-2.ensures in
-    accepted _ _ _ _ c.requires (formed) (dated) (rated) (summed)
+    accepted _ _ _ _ c.requires formed dated rated summed
     (sym (not-false _ c.if-not-records_hold-3.false-raw) ∙ c.records_hold-3.ensures)
     c.schedule_summary.ensures

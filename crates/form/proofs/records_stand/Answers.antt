@@ -21,23 +21,23 @@ returns-then-not-record_stands c = sym (c.loop-left.invariant ∙ shape_stop _ _
 pub slice_bounds-t-count : goal.slice_bounds-t-count
 slice_bounds-t-count c =
     let format-of : Format = c.args.format in
-    let stood : Whole (format-of) c.loop-left.t.now = whole _ _ (sym c.record_stands.ensures ∙ not-false _ c.if-not-record_stands.false-raw) in
-    let size : 53 + c.rate_count-rates.result + c.tail_digits-tail.result ≡ size_of (format-of) c.loop-left.t.now = size-here _ _ c.rate_count-rates.ensures.exact c.tail_digits-tail.ensures.exact (stood) in
-    within _ _ (stood) (size)
+    let stood : Whole format-of c.loop-left.t.now = whole _ _ (sym c.record_stands.ensures ∙ not-false _ c.if-not-record_stands.false-raw) in
+    let size : 53 + c.rate_count-rates.result + c.tail_digits-tail.result ≡ size_of format-of c.loop-left.t.now = size-here _ _ c.rate_count-rates.ensures.exact c.tail_digits-tail.ensures.exact stood in
+    within _ _ stood size
 
 pub slice_bounds-t-start : goal.slice_bounds-t-start
 slice_bounds-t-start c =
     let format-of : Format = c.args.format in
-    let stood : Whole (format-of) c.loop-left.t.now = whole _ _ (sym c.record_stands.ensures ∙ not-false _ c.if-not-record_stands.false-raw) in
-    let size : 53 + c.rate_count-rates.result + c.tail_digits-tail.result ≡ size_of (format-of) c.loop-left.t.now = size-here _ _ c.rate_count-rates.ensures.exact c.tail_digits-tail.ensures.exact (stood) in
-    within _ _ (stood) (size)
+    let stood : Whole format-of c.loop-left.t.now = whole _ _ (sym c.record_stands.ensures ∙ not-false _ c.if-not-record_stands.false-raw) in
+    let size : 53 + c.rate_count-rates.result + c.tail_digits-tail.result ≡ size_of format-of c.loop-left.t.now = size-here _ _ c.rate_count-rates.ensures.exact c.tail_digits-tail.ensures.exact stood in
+    within _ _ stood size
 
 pub loop-left-preserved : goal.loop-left-preserved
 loop-left-preserved c =
     let format-of : Format = c.args.format in
-    let stood : Whole (format-of) c.loop-left.t.now = whole _ _ (sym c.record_stands.ensures ∙ not-false _ c.if-not-record_stands.false-raw) in
-    let size : 53 + c.rate_count-rates.result + c.tail_digits-tail.result ≡ size_of (format-of) c.loop-left.t.now = size-here _ _ c.rate_count-rates.ensures.exact c.tail_digits-tail.ensures.exact (stood) in
-    c.loop-left.invariant ∙ shape-step _ _ _ c.loop-left-test.true (size) (sym (not-false _ c.if-not-record_stands.false-raw) ∙ c.record_stands.ensures)
+    let stood : Whole format-of c.loop-left.t.now = whole _ _ (sym c.record_stands.ensures ∙ not-false _ c.if-not-record_stands.false-raw) in
+    let size : 53 + c.rate_count-rates.result + c.tail_digits-tail.result ≡ size_of format-of c.loop-left.t.now = size-here _ _ c.rate_count-rates.ensures.exact c.tail_digits-tail.ensures.exact stood in
+    c.loop-left.invariant ∙ shape-step _ _ _ c.loop-left-test.true size (sym (not-false _ c.if-not-record_stands.false-raw) ∙ c.record_stands.ensures)
 
 pub returns : goal.returns
 returns c = sym (c.loop-left.invariant ∙ shape-end _ _ _ c.loop-left-test.false)

@@ -21,4 +21,4 @@ number-value-requires c =
 pub returns : goal.returns
 returns c =
     let all_digits : all_ascii c.args.segment.now ≡ true = sym c.all_ascii.ensures ∙ not-false _ c.if-not-all_ascii.false-raw in
-    rw (segment-any c.args.segment.now c.if-segment-ne-SEGMENT_LENGTH.false (all_digits), ← c.number-value.ensures) (cc)
+    rw (segment-any c.args.segment.now c.if-segment-ne-SEGMENT_LENGTH.false all_digits, ← c.number-value.ensures) (cc)

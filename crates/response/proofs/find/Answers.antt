@@ -21,7 +21,7 @@ returns-then-not-opened c =
     let lawful : lawful_boundary c.args.boundary.now ≡ true = sym c.lawful_boundary.ensures ∙ not-false c.lawful_boundary.result c.if-not-lawful_boundary.false-raw in
     let a = c.args in
     let both = found-says a.boundary.now a.s.now Broken
-    (not_opened a.boundary.now a.s.now (lawful)
+    (not_opened a.boundary.now a.s.now lawful
     (sym c.opened.ensures ∙ not-true c.opened.result c.if-not-opened.true-raw)) in
     record { carried = both.0; inside = both.1 }
 

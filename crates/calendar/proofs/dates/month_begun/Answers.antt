@@ -22,7 +22,7 @@ returns-then-not-few_at_most-is_month c =
     → let s = c.args.start.now in
     (all_digits s && month_exists (100 * c.pair.result + c.pair-2.result) c.pair-month.result && month_begins s) ≡ t = λ t e. cc (c.few_at_most.ensures, c.is_month.ensures, c.same-begins.ensures) in
     begun-not c.args.start.now c.if-start-ne-START_DIGITS.false c.pair.ensures.exact c.pair-2.ensures.exact c.pair-month.ensures.exact
-    (tested _ (not-true (flags) c.if-not-few_at_most-is_month.true-raw))
+    (tested _ (not-true flags c.if-not-few_at_most-is_month.true-raw))
 
 pub overflow_sub-result : goal.overflow_sub-result
 overflow_sub-result c =
@@ -30,7 +30,7 @@ overflow_sub-result c =
     let month-read : MonthFacts (100 * c.pair.result + c.pair-2.result) c.pair-month.result = let digits = c.few_at_most.result in
     let month = c.is_month.result in
     let begins = c.same-begins.result in
-    let passed = not-false (flags) c.if-not-few_at_most-is_month.false-raw in
+    let passed = not-false flags c.if-not-few_at_most-is_month.false-raw in
     month-facts _ _ (sym c.is_month.ensures ∙ (both digits month (both (digits && month) begins passed).0).1) in
     let f = month-read in omega (arith, f.first)
 
@@ -40,7 +40,7 @@ overflow_cast-result c =
     let month-read : MonthFacts (100 * c.pair.result + c.pair-2.result) c.pair-month.result = let digits = c.few_at_most.result in
     let month = c.is_month.result in
     let begins = c.same-begins.result in
-    let passed = not-false (flags) c.if-not-few_at_most-is_month.false-raw in
+    let passed = not-false flags c.if-not-few_at_most-is_month.false-raw in
     month-facts _ _ (sym c.is_month.ensures ∙ (both digits month (both (digits && month) begins passed).0).1) in
     let f = month-read in omega (arith, f.from, f.until, f.first, f.last)
 
@@ -51,4 +51,4 @@ returns c =
     → let s = c.args.start.now in
     (all_digits s && month_exists (100 * c.pair.result + c.pair-2.result) c.pair-month.result && month_begins s) ≡ t = λ t e. cc (c.few_at_most.ensures, c.is_month.ensures, c.same-begins.ensures) in
     begun-is c.args.start.now c.if-start-ne-START_DIGITS.false c.pair.ensures.exact c.pair-2.ensures.exact c.pair-month.ensures.exact
-    (tested _ (not-false (flags) c.if-not-few_at_most-is_month.false-raw))
+    (tested _ (not-false flags c.if-not-few_at_most-is_month.false-raw))

@@ -29,7 +29,7 @@ make-requires c =
     let accepted : installing c.args.id.now c.args.mac.now (given_of c.args.given) ≡ Answer.Accepted = let v = c.valid in
     let m = c.is_mac_address in
     let second = rw (m.ensures, v.ensures) at (not-false (m.result && v.result) c.if-not-is_mac_address-valid.false-raw) in
-    all-accepted _ _ _ (passed) second in
+    all-accepted _ _ _ passed second in
     accepted
 
 pub returns : goal.returns
@@ -38,5 +38,5 @@ returns c =
     let accepted : installing c.args.id.now c.args.mac.now (given_of c.args.given) ≡ Answer.Accepted = let v = c.valid in
     let m = c.is_mac_address in
     let second = rw (m.ensures, v.ensures) at (not-false (m.result && v.result) c.if-not-is_mac_address-valid.false-raw) in
-    all-accepted _ _ _ (passed) second in
-    ap (λ p. record { answer = Answer.Accepted; plant = p }) c.make.ensures ∙ sym (accepted-keeps _ _ _ (accepted))
+    all-accepted _ _ _ passed second in
+    ap (λ p. record { answer = Answer.Accepted; plant = p }) c.make.ensures ∙ sym (accepted-keeps _ _ _ accepted)

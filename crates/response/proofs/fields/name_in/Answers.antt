@@ -31,7 +31,7 @@ overflow_add-result c =
     let fits : c.loop-i.i + length c.args.p.now
     ≤ length c.args.s.now = let a = c.args in
     let l = c.loop-i in
-    let h = begins-fits a.p.now (drop l.i a.s.now) (begun) in
+    let h = begins-fits a.p.now (drop l.i a.s.now) begun in
     omega (arith, h, l.invariant.0, length-drop l.i a.s.now) in
     omega (arith, fits, c.well_formed)
 
@@ -45,12 +45,12 @@ returns-then-begins c =
     let fits : c.loop-i.i + length c.args.p.now
     ≤ length c.args.s.now = let a = c.args in
     let l = c.loop-i in
-    let h = begins-fits a.p.now (drop l.i a.s.now) (begun) in
+    let h = begins-fits a.p.now (drop l.i a.s.now) begun in
     omega (arith, h, l.invariant.0, length-drop l.i a.s.now) in
     let a = c.args in
     let l = c.loop-i in
     record {
-      found = l.invariant.1 ∙ behind-found a.p.now a.s.now l.i c.loop-i-test.true (begun);
+      found = l.invariant.1 ∙ behind-found a.p.now a.s.now l.i c.loop-i-test.true begun;
       within = fits;
     }
 

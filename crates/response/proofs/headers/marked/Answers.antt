@@ -14,14 +14,14 @@ returns-then-not-begins c =
 pub returns-in-Never : goal.returns-in-Never
 returns-in-Never c =
     let begun : begins c.args.p.now c.args.line.now ≡ true = sym c.begins.ensures ∙ not-false c.begins.result c.if-not-begins.false-raw in
-    let a = c.args in mark-is a.at a.end (begun) c.in-Never.is
+    let a = c.args in mark-is a.at a.end begun c.in-Never.is
 
 pub returns-in-Once : goal.returns-in-Once
 returns-in-Once c =
     let begun : begins c.args.p.now c.args.line.now ≡ true = sym c.begins.ensures ∙ not-false c.begins.result c.if-not-begins.false-raw in
-    let a = c.args in mark-is a.at a.end (begun) c.in-Once.is
+    let a = c.args in mark-is a.at a.end begun c.in-Once.is
 
 pub returns-in-Twice : goal.returns-in-Twice
 returns-in-Twice c =
     let begun : begins c.args.p.now c.args.line.now ≡ true = sym c.begins.ensures ∙ not-false c.begins.result c.if-not-begins.false-raw in
-    let a = c.args in mark-is a.at a.end (begun) c.in-Twice.is
+    let a = c.args in mark-is a.at a.end begun c.in-Twice.is

@@ -32,7 +32,7 @@ returns-then-end-place c =
     let a = c.args in
     let l = c.loop-end in
     subst (λ (h : Headers). HeadersRead a.s.now a.from h) (sym c.both.ensures)
-    (walk_over a.s.now a.from l.place l.size l.name l.invariant.1 _ (ended) c.if-end-place.true)
+    (walk_over a.s.now a.from l.place l.size l.name l.invariant.1 _ ended c.if-end-place.true)
 
 pub slice_bounds-line-count : goal.slice_bounds-line-count
 slice_bounds-line-count c =
