@@ -140,7 +140,8 @@ pub fn copy_rates(format: Format, body: &[u8], out: &mut [u8]) -> Written
     }
     let s = &body[layout::RECORDS..];
     let length = s.len() - layout::fixed_bytes(format);
-    if out.len() < length {
+    let room = out.len();
+    if room < length {
         return Written::Refused(Cause::Buffer);
     }
     copying::put_rates(format, s, out);

@@ -36,22 +36,22 @@ overflow_sub-length c =
     let stood : standing c.args.format c.args.body.now ≡ true = sym c.stands.ensures ∙ not-false _ c.if-not-stands.false-raw in
     fixed-inside _ _ c.args.out.now scheduled stood _ c.fixed_bytes.ensures.exact
 
-pub returns-then-out-length : goal.returns-then-out-length
-returns-then-out-length c =
+pub returns-then-room-length : goal.returns-then-room-length
+returns-then-room-length c =
     let scheduled : is_schedule c.args.format ≡ true = sym c.is_schedule.ensures ∙ not-false _ c.if-not-is_schedule.false-raw in
     let stood : standing c.args.format c.args.body.now ≡ true = sym c.stands.ensures ∙ not-false _ c.if-not-stands.false-raw in
-    let both = copy-short _ _ _ scheduled stood _ c.fixed_bytes.ensures.exact c.if-out-length.true in
+    let both = copy-short _ _ _ scheduled stood _ c.fixed_bytes.ensures.exact c.if-room-length.true in
     record { answer = both.0; buffer = both.1 }
 
 pub put_rates-requires : goal.put_rates-requires
 put_rates-requires c =
     let scheduled : is_schedule c.args.format ≡ true = sym c.is_schedule.ensures ∙ not-false _ c.if-not-is_schedule.false-raw in
     let stood : standing c.args.format c.args.body.now ≡ true = sym c.stands.ensures ∙ not-false _ c.if-not-stands.false-raw in
-    copy-room _ _ c.args.out.now scheduled stood _ c.fixed_bytes.ensures.exact c.if-out-length.false
+    copy-room _ _ c.args.out.now scheduled stood _ c.fixed_bytes.ensures.exact c.if-room-length.false
 
 pub returns : goal.returns
 returns c =
     let scheduled : is_schedule c.args.format ≡ true = sym c.is_schedule.ensures ∙ not-false _ c.if-not-is_schedule.false-raw in
     let stood : standing c.args.format c.args.body.now ≡ true = sym c.stands.ensures ∙ not-false _ c.if-not-stands.false-raw in
-    let both = copy_done _ _ _ scheduled stood _ c.fixed_bytes.ensures.exact c.if-out-length.false c.put_rates.ensures in
+    let both = copy_done _ _ _ scheduled stood _ c.fixed_bytes.ensures.exact c.if-room-length.false c.put_rates.ensures in
     record { answer = both.0; buffer = both.1 }
