@@ -13,6 +13,8 @@ pub use buffer::put;
 // As many digits as a date and time have; 64 bits hold their number.
 const MOST_DIGITS: usize = 14;
 
+const HIGHEST_DIGIT: u64 = 9;
+
 // A number of at most 14 digits, or what is none.
 #[derive(Clone, Copy)]
 pub enum Decimal {
@@ -93,7 +95,7 @@ pub fn number(s: &[u8]) -> Decimal
     let mut i = 0;
     while i < s.len() {
         let d = s[i] as u64;
-        if 9 < d {
+        if HIGHEST_DIGIT < d {
             return Decimal::Broken;
         }
         value = value * 10 + d;

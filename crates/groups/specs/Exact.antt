@@ -1,10 +1,6 @@
 -- Reading a number is exact; proved under the statement's name in small letters in proofs/Exact.antt.
-use Prim.Native.Nat.{ℕ, ◌<◌, ◌≤◌, ◌^◌}
-use mathlib.Core.Path.{◌≡◌}
-use mathlib.Core.List.{List, ◌++◌}
-use mathlib.Core.Logic.{◌↔◌}
-use mathlib.Core.Option.{some}
-use lib.ListN.{length, drop}
+use Rattle.std.specs.Prelude.{ℕ, ◌<◌, ◌≤◌, ◌^◌, ◌≡◌, List, ◌++◌, ◌↔◌, length, drop}
+use Rattle.std.proofs.Math.Option.{some}
 use Rattle.rules.specs.Groups.{groups, parse_groups}
 
 -- bytes begin with the number n, and go on with `rest`, exactly when they are n's groups and then `rest`, and n has groups

@@ -2,10 +2,8 @@
 // What is read is exactly what is put: a number has one form, the shortest, and no other bytes are read as it.
 #![tactic(auto)]
 
-ghost use mathlib.Core.Path.{◌≡◌};
-ghost use Prim.Native.Nat.{◌+◌, ◌≤◌, ◌<◌, ◌^◌, min};
-ghost use lib.ListN.{length};
-ghost use lib.Seq.{sets};
+ghost use Rattle.std.specs.Prelude.{◌≡◌, ◌+◌, ◌≤◌, ◌<◌, ◌^◌, min, length};
+ghost use Rattle.std.proofs.Math.Seq.{sets};
 ghost use Rattle.rules.specs.Groups.{groups};
 ghost use Rattle.groups.specs.Placed.{reading_at, bytes_after, place_after};
 
@@ -21,6 +19,9 @@ const MOST: usize = 5;
 
 // A group's top bit, which says that another follows: as many values as a group has.
 const MORE: u64 = 128;
+
+// What the last group of several is not: the form would not be the shortest.
+const EMPTY: u64 = 0;
 
 // Five groups hold the numbers below this.
 const LIMIT: u64 = 1 << 35;
@@ -52,7 +53,7 @@ pub fn read(s: &[u8], at: usize) -> Reading
     let mut i = at + 1;
     while i < end {
         let group = s[i] as u64;
-        if group == 0 {
+        if group == EMPTY {
             return Reading::Broken;
         }
         if group < MORE {

@@ -13,6 +13,9 @@ const ROOM: usize = 20;
 // Ends a line, and parts name and body.
 const NEW_LINE: u8 = 10;
 
+// The byte behind a name.
+const NAME_END: u8 = NEW_LINE;
+
 // How the two kinds of line begin, filled up with zeros.
 const OK: [u8; ROOM] = *b"ok \0\0\0\0\0\0\0\0\0\0\0\0\0\0\0\0\0";
 
@@ -99,7 +102,7 @@ fn name_end(input: &[u8]) -> usize
 {
     let mut i = 0;
     while i < input.len() {
-        if input[i] == NEW_LINE {
+        if input[i] == NAME_END {
             return i;
         }
         i += 1;

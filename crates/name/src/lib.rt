@@ -194,7 +194,8 @@ pub fn plant_digits(name: &[u8]) -> [u8; PLANT_LENGTH]
 pub fn is_segment(segment: &[u8]) -> bool
     ensures { result ≡ any_segment segment.now }
 {
-    if segment.len() != SEGMENT_LENGTH {
+    let length = SEGMENT_LENGTH;
+    if segment.len() != length {
         return false;
     }
     if !digits::all_ascii(segment) {

@@ -105,7 +105,9 @@ pub fn command_after(
     ensures { result ≡ command_after plant pool store.now clock until command }
 {
     let minutes = plant.settings.minutes;
-    if until <= clock {
+    let from = clock;
+    let to = until;
+    if to <= from {
         return command;
     }
     if MOST_MINUTES < minutes {

@@ -81,7 +81,8 @@ pub fn request(id: &[u8], mac: &[u8], segment: &[u8], out: &mut [u8]) -> Written
     if !name::is_segment(segment) {
         return Written::Refused(Cause::Name);
     }
-    if out.len() < REQUEST_LENGTH {
+    let length = REQUEST_LENGTH;
+    if out.len() < length {
         return Written::Refused(Cause::Buffer);
     }
     fill(id, mac, segment, out);

@@ -104,7 +104,8 @@ fn put_piece(
     requires { (length store.old ≡ store_length) × (from + length rates.now ≤ block_length) }
     ensures { stored_of result store.new ≡ put_piece floor (piece_of month from rates.now) (stored_of pool store.old) }
 {
-    if (floor <= month) & (0 < rates.len()) {
+    let lowest = floor;
+    if (lowest <= month) & (0 < rates.len()) {
         let opened = open_month(pool, month, store);
         let block = opened.block;
         lay_piece(block, from, rates, store);

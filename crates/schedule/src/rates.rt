@@ -26,7 +26,8 @@ pub fn byte_of(rate: u8) -> u8
 fn rate_of(byte: u8) -> StoredRate
     ensures { result ≡ rate_option (from_byte byte) }
 {
-    if byte == NO_RATE {
+    let none = NO_RATE;
+    if byte == none {
         StoredRate::NoRate
     } else {
         StoredRate::Rate(byte)

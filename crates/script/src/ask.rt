@@ -225,6 +225,9 @@ fn is_silent(line: &[u8]) -> bool
     line[0] == COMMENT
 }
 
+// `install` and what it is given.
+const INSTALL_WORDS: usize = 6;
+
 pub fn ask_of(line: &[u8]) -> Ask
     ensures { result ≡ ask_of line.now }
 {
@@ -241,7 +244,7 @@ pub fn ask_of(line: &[u8]) -> Ask
     if count == 3 {
         return ask_three(word(line, 0), word(line, 1), word(line, 2));
     }
-    if count == 6 {
+    if count == INSTALL_WORDS {
         return ask_six(word(line, 0), word(line, 3), word(line, 4), word(line, 5));
     }
     Ask::Unknown

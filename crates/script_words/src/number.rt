@@ -8,6 +8,8 @@ pub enum Number {
     Broken,
 }
 
+const HIGHEST_DIGIT: u8 = b'9';
+
 // The number with one more digit behind it.
 fn more(value: u64, digit: u8) -> Number
     ensures { result ≡ decimal_step value digit }
@@ -15,7 +17,7 @@ fn more(value: u64, digit: u8) -> Number
     if digit < b'0' {
         return Number::Broken;
     }
-    if b'9' < digit {
+    if HIGHEST_DIGIT < digit {
         return Number::Broken;
     }
     let d = (digit - b'0') as u64;

@@ -11,7 +11,8 @@ pub fn place(s: &[u8], byte: u8) -> usize
 {
     let mut i = 0;
     while i < s.len() {
-        if s[i] == byte {
+        let wanted = byte;
+        if s[i] == wanted {
             return i;
         }
         i += 1;

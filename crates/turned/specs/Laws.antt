@@ -1,8 +1,5 @@
 -- Turning loses nothing. Each statement is proved under its own name in small letters in proofs/Places.antt.
-use Prim.Native.Nat.{ℕ, ◌+◌, ◌*◌, ◌<◌}
-use mathlib.Core.Path.{◌≡◌}
-use mathlib.Core.List.{List}
-use lib.ListN.{length, get_or}
+use Rattle.std.specs.Prelude.{ℕ, ◌+◌, ◌*◌, ◌<◌, ◌≡◌, List, length, get_or}
 use Rattle.rules.specs.Turned.{turned, turned_back}
 
 -- the byte of day d and half hour h stands at h * days + d

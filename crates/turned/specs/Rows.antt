@@ -1,10 +1,5 @@
 -- A month's bytes turned and put back as the code does it: by the slices' lengths, and the place from which each byte comes.
-use Prim.Native.Nat.{ℕ, ◌+◌, ◌-◌, ◌*◌, ◌/◌, ◌%◌, ◌≤◌}
-use mathlib.Core.Bool.{Bool, ◌&&◌, cond}
-use mathlib.Core.Path.{◌≡◌}
-use mathlib.Core.List.{List}
-use lib.Dec.{ltb, leb, eqb}
-use lib.ListN.{length}
+use Rattle.std.specs.Prelude.{ℕ, ◌+◌, ◌-◌, ◌*◌, ◌/◌, ◌%◌, ◌≤◌, Bool, ◌&&◌, cond, ◌≡◌, List, ltb, leb, eqb, length}
 use Rattle.rules.specs.Turned.{turned, turned_back}
 
 -- whether two slices have the length of one month's bytes: 48 times 1 to 31 days

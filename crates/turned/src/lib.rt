@@ -1,9 +1,7 @@
 // A month's bytes in the stored form's order, and back (02, §2). One is the other's inverse: turned and put back, the bytes are what they were.
 #![tactic(auto)]
 
-ghost use mathlib.Core.Path.{◌≡◌};
-ghost use Prim.Native.Nat.{◌/◌, ◌≤◌, ◌<◌};
-ghost use lib.ListN.{length};
+ghost use Rattle.std.specs.Prelude.{◌≡◌, ◌/◌, ◌≤◌, ◌<◌, length};
 ghost use Rattle.rules.specs.Turned.{rearranged};
 ghost use Rattle.turned.specs.Rows.{Rows, is_month, turned_into, turned_back_into, stepped};
 

@@ -20,12 +20,12 @@ bounds-s-i c = omega arith
 pub overflow_cast-d : goal.overflow_cast-d
 overflow_cast-d c = omega (arith, c.shared_slice_known-1.given c.loop-i.i)
 
-pub returns-then-d-gt9 : goal.returns-then-d-gt9
+pub returns-then-d-gt-HIGHEST_DIGIT : goal.returns-then-d-gt-HIGHEST_DIGIT
 unfolding decimal_of
-returns-then-d-gt9 c =
+returns-then-d-gt-HIGHEST_DIGIT c =
     let l = c.loop-i in
     let s = c.args.s.now in
-    simp (le-leb (length s) 14 l.invariant.1, l.invariant.3 ∙ digit-stop s l.i c.loop-i-test.true c.if-d-gt9.true)
+    simp (le-leb (length s) 14 l.invariant.1, l.invariant.3 ∙ digit-stop s l.i c.loop-i-test.true c.if-d-gt-HIGHEST_DIGIT.true)
 
 pub overflow_mul-value : goal.overflow_mul-value
 overflow_mul-value c = omega (arith, fits-digits _ _ c.loop-i.invariant.2 (omega arith))
@@ -45,8 +45,8 @@ loop-i-preserved c =
     let s = c.args.s.now in (
       omega arith,
       l.invariant.1,
-      more-digits _ _ _ l.invariant.2 c.if-d-gt9.false,
-      l.invariant.3 ∙ digit-step s l.i c.loop-i-test.true c.if-d-gt9.false,
+      more-digits _ _ _ l.invariant.2 c.if-d-gt-HIGHEST_DIGIT.false,
+      l.invariant.3 ∙ digit-step s l.i c.loop-i-test.true c.if-d-gt-HIGHEST_DIGIT.false,
       l.invariant.4 ∙ value-step s l.i l.value c.loop-i-test.true,
     )
 

@@ -1,4 +1,4 @@
--- `groups::put` meets its contract. Assumes nothing.
+-- `groups::put` meets its contract.
 use mathlib.Core.Path.{◌∙◌, sym}
 use native.Mathlib.Omega.{arith}
 use Rattle.rules.specs.Groups.{groups}

@@ -48,14 +48,14 @@ bounds-s-i c = omega arith
 pub overflow_cast-group : goal.overflow_cast-group
 overflow_cast-group c = omega (arith, c.shared_slice_known-in-loop-i-1.given c.loop-i.i)
 
-pub returns-then-group-eq0 : goal.returns-then-group-eq0
-returns-then-group-eq0 c =
+pub returns-then-group-eq-EMPTY : goal.returns-then-group-eq-EMPTY
+returns-then-group-eq-EMPTY c =
     let in_reach : (c.loop-i.i < c.args.at + 5)
     × (c.loop-i.i < length c.args.s.now) = omega (arith, c.lesser-end.ensures) in
     let a = c.args in
     let l = c.loop-i in
     let r = in_reach in
-    sym (l.invariant.3 ∙ zero-last a.s.now a.at l.value l.unit l.i r.0 r.1 c.if-group-eq0.true)
+    sym (l.invariant.3 ∙ zero-last a.s.now a.at l.value l.unit l.i r.0 r.1 c.if-group-eq-EMPTY.true)
 
 pub overflow_mul-result : goal.overflow_mul-result
 overflow_mul-result c =
@@ -91,7 +91,7 @@ returns-then-group-lt-MORE c =
     let a = c.args in
     let l = c.loop-i in
     let r = in_reach in
-    sym (l.invariant.3 ∙ last-there a.s.now a.at l.value l.unit l.i r.0 r.1 c.if-group-eq0.false c.if-group-lt-MORE.true)
+    sym (l.invariant.3 ∙ last-there a.s.now a.at l.value l.unit l.i r.0 r.1 c.if-group-eq-EMPTY.false c.if-group-lt-MORE.true)
 
 pub overflow_mul-value : goal.overflow_mul-value
 overflow_mul-value c =

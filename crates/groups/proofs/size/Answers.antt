@@ -1,4 +1,4 @@
--- `groups::size` meets its contract. Assumes nothing.
+-- `groups::size` meets its contract.
 use Rattle.groups.proofs.Putting.{one_byte, two_bytes, three-bytes, four_bytes, five-bytes, no_bytes}
 use Rattle.groups.proofs.size.Goals as goal
 

@@ -9,11 +9,11 @@ loop-i-init c = (omega arith, omega arith)
 pub bounds-input-i : goal.bounds-input-i
 bounds-input-i c = omega arith
 
-pub returns-then-input-i-eq-NEW_LINE : goal.returns-then-input-i-eq-NEW_LINE
-returns-then-input-i-eq-NEW_LINE c =
+pub returns-then-input-i-eq-NAME_END : goal.returns-then-input-i-eq-NAME_END
+returns-then-input-i-eq-NAME_END c =
     let x = c.args.input.now in
     let l = c.loop-i in
-    sym (l.invariant.1 ∙ name-stops x l.i c.loop-i-test.true c.if-input-i-eq-NEW_LINE.true)
+    sym (l.invariant.1 ∙ name-stops x l.i c.loop-i-test.true c.if-input-i-eq-NAME_END.true)
 
 pub overflow_add-i : goal.overflow_add-i
 overflow_add-i c = omega arith
@@ -25,7 +25,7 @@ pub loop-i-preserved : goal.loop-i-preserved
 loop-i-preserved c =
     let x = c.args.input.now in
     let l = c.loop-i in
-    (omega arith, l.invariant.1 ∙ name-more x l.i c.loop-i-test.true c.if-input-i-eq-NEW_LINE.false)
+    (omega arith, l.invariant.1 ∙ name-more x l.i c.loop-i-test.true c.if-input-i-eq-NAME_END.false)
 
 pub returns : goal.returns
 returns c =

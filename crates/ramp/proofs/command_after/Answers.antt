@@ -7,8 +7,8 @@ use Rattle.plant.specs.Plant.{settings_of}
 use Rattle.ramp.proofs.Laws.{command_over-most, goal-most, after-no-second, after-long-ramp, after-high-command, after-over}
 use Rattle.ramp.proofs.command_after.Goals as goal
 
-pub returns-then-until-clock : goal.returns-then-until-clock
-returns-then-until-clock c =
+pub returns-then-to-from : goal.returns-then-to-from
+returns-then-to-from c =
     let a = c.args in
     sym (after-no-second a.plant a.pool a.store.now a.clock a.until a.command (omega arith))
 

@@ -31,14 +31,14 @@ returns-then-not-is_segment c =
     let both = answered a.out.now (no-segment a.id.now a.mac.now a.segment.now _ plant mac segment-fails) in
     record { answer = both.0; buffer = both.1 }
 
-pub returns-then-out-lt-REQUEST_LENGTH : goal.returns-then-out-lt-REQUEST_LENGTH
-returns-then-out-lt-REQUEST_LENGTH c =
+pub returns-then-out-length : goal.returns-then-out-length
+returns-then-out-length c =
     let plant : plant_id c.args.id.now ≡ true = sym c.is_plant_id.ensures ∙ not-false _ c.if-not-is_plant_id.false-raw in
     let mac : mac_address c.args.mac.now ≡ true = sym c.is_mac_address.ensures ∙ not-false _ c.if-not-is_mac_address.false-raw in
     let segment : any_segment c.args.segment.now ≡ true = sym c.is_segment.ensures ∙ not-false _ c.if-not-is_segment.false-raw in
     let a = c.args in
     let both = answered a.out.now
-    (no_room a.id.now a.mac.now a.segment.now _ plant mac segment c.if-out-lt-REQUEST_LENGTH.true) in
+    (no_room a.id.now a.mac.now a.segment.now _ plant mac segment c.if-out-length.true) in
     record { answer = both.0; buffer = both.1 }
 
 pub fill-requires : goal.fill-requires
@@ -46,7 +46,7 @@ fill-requires c =
     let plant : plant_id c.args.id.now ≡ true = sym c.is_plant_id.ensures ∙ not-false _ c.if-not-is_plant_id.false-raw in
     let mac : mac_address c.args.mac.now ≡ true = sym c.is_mac_address.ensures ∙ not-false _ c.if-not-is_mac_address.false-raw in
     let segment : any_segment c.args.segment.now ≡ true = sym c.is_segment.ensures ∙ not-false _ c.if-not-is_segment.false-raw in
-    parts _ _ _ 0 plant mac segment _ c.if-out-lt-REQUEST_LENGTH.false
+    parts _ _ _ 0 plant mac segment _ c.if-out-length.false
 
 pub returns : goal.returns
 returns c =
@@ -57,7 +57,7 @@ returns c =
     let i = plant in
     let m = mac in
     let s = segment in
-    let room = c.if-out-lt-REQUEST_LENGTH.false in
+    let room = c.if-out-length.false in
     let both = finished a.out.now (is-request a.id.now a.mac.now a.segment.now (length a.out.now) i m s room)
     (request-length (parts a.id.now a.mac.now a.segment.now 0 i m s a.out.now room))
     c.fill.ensures in

@@ -1,4 +1,4 @@
--- `turned::step` meets its contract. Assumes nothing.
+-- `turned::step` meets its contract.
 use Prim.Native.Nat.{◌+◌}
 use mathlib.Core.Path.{refl}
 use borrow.Author.Tests.{lt-ltb, le-ltb}

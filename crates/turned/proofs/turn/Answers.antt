@@ -1,4 +1,4 @@
--- `turned::turn` meets its contract. Assumes nothing.
+-- `turned::turn` meets its contract.
 use mathlib.Core.Path.{◌≡◌, ◌∙◌, sym}
 use mathlib.Core.Bool.{true}
 use lib.ListN.{length}

@@ -11,15 +11,15 @@ lay_piece-requires c =
     let o = c.open_month-opened in
     (search rules, c.requires.1, λ b e. find-below _ _ _ (sym o.ensures.1 ∙ e))
 
-pub returns-then-floor-month : goal.returns-then-floor-month
-returns-then-floor-month c =
+pub returns-then-lowest-month : goal.returns-then-lowest-month
+returns-then-lowest-month c =
     let a = c.args in
     let q = piece_of a.month a.from a.rates.now in
     let o = c.open_month-opened in
-    piece-in a.floor q (stored_of a.pool a.store.now) _ _ c.if-floor-month.true o.ensures.0
+    piece-in a.floor q (stored_of a.pool a.store.now) _ _ c.if-lowest-month.true o.ensures.0
     (lay_is o.result.pool q _ _ _ o.ensures.1 c.lay_piece.ensures)
 
-pub returns-else-floor-month : goal.returns-else-floor-month
-returns-else-floor-month c =
+pub returns-else-lowest-month : goal.returns-else-lowest-month
+returns-else-lowest-month c =
     let a = c.args in
-    sym (piece_out a.floor (piece_of a.month a.from a.rates.now) (stored_of a.pool a.store.now) c.if-floor-month.false)
+    sym (piece_out a.floor (piece_of a.month a.from a.rates.now) (stored_of a.pool a.store.now) c.if-lowest-month.false)

@@ -2,8 +2,8 @@
 use Rattle.schedule.proofs.RateLaws.{byte-none, byte-some}
 use Rattle.schedule.proofs.rates.rate_of.Goals as goal
 
-pub returns-then-byte-eq-NO_RATE : goal.returns-then-byte-eq-NO_RATE
-returns-then-byte-eq-NO_RATE c = byte-none c.args.byte c.if-byte-eq-NO_RATE.true
+pub returns-then-byte-none : goal.returns-then-byte-none
+returns-then-byte-none c = byte-none c.args.byte c.if-byte-none.true
 
-pub returns-else-byte-eq-NO_RATE : goal.returns-else-byte-eq-NO_RATE
-returns-else-byte-eq-NO_RATE c = byte-some c.args.byte c.if-byte-eq-NO_RATE.false
+pub returns-else-byte-none : goal.returns-else-byte-none
+returns-else-byte-none c = byte-some c.args.byte c.if-byte-none.false

@@ -16,10 +16,10 @@ returns-then-count-eq2 c = c.ask_two.ensures ∙ (cc) ∙ sym (two_words _ _ (sy
 pub returns-then-count-eq3 : goal.returns-then-count-eq3
 returns-then-count-eq3 c = c.ask_three.ensures ∙ (cc) ∙ sym (three_words _ _ (sym c.is_silent.ensures ∙ c.if-is_silent.false) c.word_count-count.ensures c.if-count-eq1.false c.if-count-eq2.false c.if-count-eq3.true)
 
-pub returns-then-count-eq6 : goal.returns-then-count-eq6
-returns-then-count-eq6 c =
+pub returns-then-count-eq-INSTALL_WORDS : goal.returns-then-count-eq-INSTALL_WORDS
+returns-then-count-eq-INSTALL_WORDS c =
     c.ask_six.ensures ∙ (cc)
-    ∙ sym (six_words _ _ (sym c.is_silent.ensures ∙ c.if-is_silent.false) c.word_count-count.ensures c.if-count-eq1.false c.if-count-eq2.false c.if-count-eq3.false c.if-count-eq6.true)
+    ∙ sym (six_words _ _ (sym c.is_silent.ensures ∙ c.if-is_silent.false) c.word_count-count.ensures c.if-count-eq1.false c.if-count-eq2.false c.if-count-eq3.false c.if-count-eq-INSTALL_WORDS.true)
 
 pub returns : goal.returns
-returns c = sym (other-count _ _ (sym c.is_silent.ensures ∙ c.if-is_silent.false) c.word_count-count.ensures c.if-count-eq1.false c.if-count-eq2.false c.if-count-eq3.false c.if-count-eq6.false)
+returns c = sym (other-count _ _ (sym c.is_silent.ensures ∙ c.if-is_silent.false) c.word_count-count.ensures c.if-count-eq1.false c.if-count-eq2.false c.if-count-eq3.false c.if-count-eq-INSTALL_WORDS.false)

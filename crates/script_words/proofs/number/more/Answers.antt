@@ -6,11 +6,11 @@ use Rattle.script_words.proofs.number.more.Goals as goal
 pub returns-then-digit-lt48 : goal.returns-then-digit-lt48
 returns-then-digit-lt48 c = sym (no-digit-low c.args.value _ c.if-digit-lt48.true)
 
-pub returns-then-digit-gt57 : goal.returns-then-digit-gt57
-returns-then-digit-gt57 c = sym (no-digit-high c.args.value _ c.if-digit-lt48.false c.if-digit-gt57.true)
+pub returns-then-digit-gt-HIGHEST_DIGIT : goal.returns-then-digit-gt-HIGHEST_DIGIT
+returns-then-digit-gt-HIGHEST_DIGIT c = sym (no-digit-high c.args.value _ c.if-digit-lt48.false c.if-digit-gt-HIGHEST_DIGIT.true)
 
 pub returns-then-d-value : goal.returns-then-d-value
-returns-then-d-value c = sym (too_great c.args.value _ c.if-digit-lt48.false c.if-digit-gt57.false c.if-d-value.true)
+returns-then-d-value c = sym (too_great c.args.value _ c.if-digit-lt48.false c.if-digit-gt-HIGHEST_DIGIT.false c.if-d-value.true)
 
 pub returns : goal.returns
-returns c = sym (next-number c.args.value _ c.if-digit-lt48.false c.if-digit-gt57.false c.if-d-value.false)
+returns c = sym (next-number c.args.value _ c.if-digit-lt48.false c.if-digit-gt-HIGHEST_DIGIT.false c.if-d-value.false)
