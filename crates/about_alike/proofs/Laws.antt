@@ -23,7 +23,7 @@ use Rattle.about_store.proofs.Shown.{Plain, held_same, bytes_same}
 use Rattle.unit.specs.Values.{fresh_pool, fresh_unit}
 use Rattle.unit.specs.Calls.{lost}
 use Rattle.calls.specs.Step.{State, Step, step_done, step, replies, after}
-use Rattle.unit.specs.declared.Done.{Done}
+use Rattle.unit.specs.Changed.{Done}
 use Rattle.unit.proofs.CallLaws.{lost-done}
 use Rattle.unit.proofs.SoundParts.{sound-parts}
 use Rattle.about_calls.proofs.EveryList.{every-list}

@@ -1,4 +1,5 @@
 -- A call on every pool and store that show one view: one reply, and one view afterwards.
+use Rattle.std.specs.Prelude.{Option}
 use Prim.Native.Nat.{ℕ, ◌*◌, ◌≤◌}
 use mathlib.Core.Path.{◌≡◌}
 use mathlib.Core.Bool.{true}
@@ -19,24 +20,23 @@ use Rattle.polling.specs.declared.Requests.{Requests}
 use Rattle.schedule.specs.Stored.{Stored}
 use Rattle.about_store.proofs.View.{View, Shows}
 use Rattle.about_store.proofs.Shown.{Plain, store_view}
-use Rattle.unit.specs.Values.{clock_of, is_sound}
+use Rattle.unit.specs.Values.{is_sound}
 use Rattle.calls.specs.Step.{State, Step, step}
 use Rattle.unit.specs.declared.Unit.{Unit}
-use Rattle.unit.specs.declared.Clock.{Clock}
 use Rattle.unit.proofs.SoundParts.{parts-sound}
 
 -- what a unit has beside pool and floor
 pub record Beside : Type 0 where
   pub plant : Plant
   pub requests : Requests
-  pub clock : Clock
+  pub clock : Option ℕ
   pub command : ℕ
 
 -- all of it is sound
 pub record Good (r : Beside) : Type 0 where
   pub plant : valid_plant r.plant ≡ true
   pub requests : sound_requests (settings_of r.plant) (requests_of r.requests) ≡ true
-  pub clock : sound_clock (clock_of r.clock) ≡ true
+  pub clock : sound_clock (r.clock) ≡ true
   pub command : r.command ≤ 6000 * r.plant.settings.minutes
 
 -- the unit whose pool and store are given, with the view's floor

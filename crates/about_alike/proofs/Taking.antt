@@ -1,4 +1,5 @@
 -- The outcome of a file, by itself or in a response: there is room for it in all that show one view or in none, and its records are put alike.
+use Rattle.std.specs.Prelude.{Option, Some, None}
 use Prim.Native.Nat.{ℕ, ◌-◌, ◌<◌}
 use mathlib.Core.Path.{◌≡◌, refl, sym, ap, ◌∙◌}
 use mathlib.Core.Bool.{Bool, true, false}
@@ -24,21 +25,18 @@ use Rattle.about_store.proofs.Shown.{Plain, free-view}
 use Rattle.about_store.proofs.Rooms.{records-plain, lacking, missing-view, held_more}
 use Rattle.about_store.proofs.Records.{records_view, records-floor, records-shows}
 use Rattle.polling.specs.Requests.{requests_from}
-use Rattle.unit.specs.Values.{clock_of}
 use Rattle.unit.specs.Rows.{is_unset}
 use Rattle.unit.specs.Calls.{clock_time}
 use Rattle.taking.specs.Taken.{with_file, store_with, full_row}
 use Rattle.calls.specs.Step.{State, step}
-use Rattle.unit.specs.declared.Clock.{Clock}
-use Rattle.unit.specs.declared.Clock.TheVariants.{Unset, At}
 use Rattle.about_calls.proofs.UnitLaws as unit
 use Rattle.about_calls.proofs.Asks.{asks_facts, facts_asks}
 use Rattle.about_calls.proofs.Taking.{file-asks, Carries, from-file, from-response}
 use Rattle.about_alike.proofs.Outcomes.{Beside, Good, unit_of, made, made-sound, made-full, made-lent, Outcome, same-state}
 
-clock-low : (c : Clock) → sound_clock (clock_of c) ≡ true → clock_time c < end_of_time
-clock-low Unset e = omega arith
-clock-low (At t) e = ltb-true t end_of_time e
+clock-low : (c : Option ℕ) → sound_clock (c) ≡ true → clock_time c < end_of_time
+clock-low None e = omega arith
+clock-low (Some t) e = ltb-true t end_of_time e
 
 module _ (r : Beside) (v : View) (good : Good r) (plain : Plain v) where
   module _ (f : File) (by : TakenBy r.plant.id f) where
@@ -104,7 +102,7 @@ module _ (r : Beside) (v : View) (good : Good r) (plain : Plain v) where
   taken-outcome : (c : Call) (o : Read) → Carries r.plant.id o → ((st : Stored) → step c (made r v st) ≡ unit.taken_step o (made r v st)) → Outcome c r v
   taken-outcome c o from is = by-clock r.clock refl
     where
-      by-room : (t : ℕ) → r.clock ≡ At t → (f : File) → o ≡ file f → (by : TakenBy r.plant.id f) (b : Bool) → is_full f by ≡ b → Outcome c r v
+      by-room : (t : ℕ) → r.clock ≡ Some t → (f : File) → o ≡ file f → (by : TakenBy r.plant.id f) (b : Bool) → is_full f by ≡ b → Outcome c r v
       by-room t k f e by true g =
           same-state c r v good plain (refused (number_of Cause.Full))
           (λ st h. let s = made r v st in
@@ -131,7 +129,7 @@ module _ (r : Beside) (v : View) (good : Good r) (plain : Plain v) where
             };
       }
 
-      by-reading : (t : ℕ) → r.clock ≡ At t → (x : Read) → o ≡ x → Outcome c r v
+      by-reading : (t : ℕ) → r.clock ≡ Some t → (x : Read) → o ≡ x → Outcome c r v
       by-reading t k (refuse x) e =
           same-state c r v good plain (refused (number_of x))
           (λ st h. let s = made r v st in
@@ -140,12 +138,12 @@ module _ (r : Beside) (v : View) (good : Good r) (plain : Plain v) where
           ∙ unit.take-refused s (made-full r v good plain st h) (made-sound r v good plain st h) (made-lent r v good plain st h) (ap is_unset k) x)
       by-reading t k (file f) e = by-room t k f e (from f e) (is_full f (from f e)) refl
 
-      by-clock : (k : Clock) → r.clock ≡ k → Outcome c r v
-      by-clock Unset k =
+      by-clock : (k : Option ℕ) → r.clock ≡ k → Outcome c r v
+      by-clock None k =
           same-state c r v good plain (refused (number_of Cause.ClockUnset))
           (λ st h. let s = made r v st in
           is st ∙ unit.take-unset s (made-full r v good plain st h) (made-sound r v good plain st h) (made-lent r v good plain st h) (ap is_unset k) o)
-      by-clock (At t) k = by-reading t k o refl
+      by-clock (Some t) k = by-reading t k o refl
 
   pub take-outcome : (name body : List ℕ) → Outcome (file_taken name body) r v
   unfolding step

@@ -1,9 +1,9 @@
 -- The outcome of a tick: the floor rises for all that show one view, and the command moves alike.
+use Rattle.std.specs.Prelude.{Some, None, Option}
 use Prim.Native.Nat.{ℕ, zero, suc, ◌+◌, ◌-◌, ◌*◌, ◌≤◌, ◌<◌}
 use mathlib.Core.Path.{◌≡◌, refl, ap, ◌∙◌}
 use mathlib.Core.Bool.{Bool, true, false, cond}
 use mathlib.Core.List.{List}
-use mathlib.Core.Option.{Option, none, some}
 use native.Mathlib.Omega.{arith}
 use lib.Dec.{leb, ltb}
 use borrow.Author.Tests.{lt-ltb, leb-false, ltb-true}
@@ -21,8 +21,6 @@ use Rattle.about_store.proofs.View.{View, Shows}
 use Rattle.about_store.proofs.Shown.{Plain, rate-view, release_view, release-plain, release_shows}
 use Rattle.unit.specs.Calls.{set_clock, with_command, second, seconds, tick_from, ticked}
 use Rattle.unit.specs.declared.Unit.{Unit}
-use Rattle.unit.specs.declared.Clock.{Clock}
-use Rattle.unit.specs.declared.Clock.TheVariants.{Unset, At}
 use Rattle.about_calls.proofs.UnitLaws as unit
 use Rattle.about_calls.proofs.Ticking.{slot-below, month-below, approach-most}
 use Rattle.about_alike.proofs.Outcomes.{Beside, Good, unit_of, made, made-sound, made-full, made-lent, Outcome, same-state}
@@ -70,7 +68,7 @@ module _ (r : Beside) (v : View) (good : Good r) (plain : Plain v) where
   set-later : (t : ℕ) → t < end_of_time → Later (λ store u. set_clock t u) r v
   unfolding set_clock
   set-later t l = record {
-    beside = record { plant = r.plant; requests = r.requests; clock = At t; command = r.command };
+    beside = record { plant = r.plant; requests = r.requests; clock = Some t; command = r.command };
     view = risen t;
     good = record { plant = good.plant; requests = good.requests; clock = lt-ltb t end_of_time l; command = good.command };
     plain = release-plain (raised_floor v.floor t) v plain;
@@ -90,9 +88,9 @@ module _ (r : Beside) (v : View) (good : Good r) (plain : Plain v) where
   abbrev goal : ℕ → ℕ
   goal t = target (settings_of r.plant) (now t)
 
-  goal-most : (o : Option ℕ) → ((x : ℕ) → o ≡ some x → x ≤ highest_rate) → target (settings_of r.plant) o ≤ 6000 * r.plant.settings.minutes
-  goal-most none k = parts-most (settings_of r.plant) 0 (omega arith)
-  goal-most (some x) k = parts-most (settings_of r.plant) x (k x refl)
+  goal-most : (o : Option ℕ) → ((x : ℕ) → o ≡ Some x → x ≤ highest_rate) → target (settings_of r.plant) o ≤ 6000 * r.plant.settings.minutes
+  goal-most None k = parts-most (settings_of r.plant) 0 (omega arith)
+  goal-most (Some x) k = parts-most (settings_of r.plant) x (k x refl)
 
   second-later : (t : ℕ) → t < end_of_time → Later (λ store u. second store t u) r v
   unfolding second with_command set_clock
@@ -100,7 +98,7 @@ module _ (r : Beside) (v : View) (good : Good r) (plain : Plain v) where
       let f = raised_floor v.floor t in
       let after : Plain (risen t) = release-plain f v plain in
       record {
-        beside = record { plant = r.plant; requests = r.requests; clock = At t; command = approach (goal t) r.command };
+        beside = record { plant = r.plant; requests = r.requests; clock = Some t; command = approach (goal t) r.command };
         view = risen t;
         good = record {
           plant = good.plant;
@@ -118,7 +116,7 @@ module _ (r : Beside) (v : View) (good : Good r) (plain : Plain v) where
               is = ap
                   (λ (o : Option ℕ).
                   unit_of
-                  (record { plant = r.plant; requests = r.requests; clock = At t; command = approach (target (settings_of r.plant) o) r.command })
+                  (record { plant = r.plant; requests = r.requests; clock = Some t; command = approach (target (settings_of r.plant) o) r.command })
                   (risen t) (with p st))
                   (rate-view (risen t) after (with p st) shown (slot_of t) (slot-below t l));
               shows = shown;
@@ -153,9 +151,9 @@ module _ (r : Beside) (v : View) (good : Good r) (plain : Plain v) (t : ℕ) (l 
       by c true e = set-later r v good plain t l
       by c false e = seconds-later (t - c) c r v good plain (omega (arith, leb-false t c e))
 
-      from : (c : Clock) → Later (λ store u. tick_from store t c u) r v
-      from Unset = set-later r v good plain t l
-      from (At c) = by c (leb t c) refl
+      from : (c : Option ℕ) → Later (λ store u. tick_from store t c u) r v
+      from None = set-later r v good plain t l
+      from (Some c) = by c (leb t c) refl
 
 pub tick-outcome : (r : Beside) (v : View) → Good r → Plain v → (t : ℕ) → Outcome (tick t) r v
 tick-outcome r v good plain t = go (ltb t end_of_time) refl

@@ -1,10 +1,10 @@
 -- The view of a sound pool and store, which another with the same months and bytes has too. It may hold a month that no file gave a rate.
+use Rattle.std.specs.Prelude.{Some, None, Option, is_none}
 use Prim.Native.Nat.{ℕ, ◌+◌, ◌-◌, ◌^◌, ◌≤◌, ◌<◌, ◌*◌}
 use mathlib.Core.Path.{◌≡◌, refl, sym, ap, ◌∙◌}
 use mathlib.Core.Logic.{◌↔◌}
 use mathlib.Core.Bool.{Bool, true, false, cond, not, true≢false, false≢true}
 use mathlib.Core.List.{List}
-use mathlib.Core.Option.{Option, none, some}
 use native.Mathlib.Omega.{arith}
 use lib.Dec.{ltb, eqb}
 use lib.ListN.{length, get_or, take, drop}
@@ -18,10 +18,8 @@ use Rattle.rules.specs.Machine.{or_zero}
 use Rattle.laws.proofs.Tests.{both}
 use Rattle.pool.specs.Blocks.{find_of}
 use Rattle.pool.specs.Held.{InBlock, Held, Sound, held_of}
-use Rattle.pool.specs.declared.Found.{Found}
-use Rattle.pool.specs.declared.Found.TheVariants.{At, Nothing}
 use Rattle.pool.proofs.Laws.{find_at, find_in}
-use Rattle.schedule.specs.Stored.{Stored, place, rate_found, is_nothing}
+use Rattle.schedule.specs.Stored.{Stored, place, rate_found}
 use Rattle.about_store.proofs.View.{View, Shows}
 use Rattle.about_store.proofs.Shown.{Plain, block_at, block-length}
 use Rattle.unit.proofs.ReleaseLaws.{held-block, block-legal, all-at as all_in}
@@ -35,15 +33,15 @@ slot_rate st m i = rate_found (find_of st.pool m) st.store i
 abbrev pub view_in : ℕ → Stored → View
 view_in floor st = record {
   floor = floor;
-  held = λ m. not (is_nothing (find_of st.pool m));
-  says = λ m i. cond (ltb i (slots_of_month m)) (slot_rate st m i) none;
+  held = λ m. not (is_none (find_of st.pool m));
+  says = λ m i. cond (ltb i (slots_of_month m)) (slot_rate st m i) None;
 }
 
 byte-same : (x : ℕ) → to_byte (from_byte x) ≡ x
 unfolding from_byte
 byte-same x = go (eqb x no_rate) refl
   where
-    go : (t : Bool) → eqb x no_rate ≡ t → to_byte (cond t none (some x)) ≡ x
+    go : (t : Bool) → eqb x no_rate ≡ t → to_byte (cond t None (Some x)) ≡ x
     go true e = sym (eqb-true x no_rate e)
     go false e = refl
 
@@ -77,22 +75,22 @@ module _ (st : Stored) (full : length st.store ≡ store_length) (lent : sound_s
       silent = λ m i e. silent m i (find_of st.pool m) (ltb i (slots_of_month m)) e;
     }
       where
-        to : (m : ℕ) → Held st.pool m → not (is_nothing (find_of st.pool m)) ≡ true
+        to : (m : ℕ) → Held st.pool m → not (is_none (find_of st.pool m)) ≡ true
         to m h = rw (find_in st.pool floor m h.0 sound h.1)
 
-        from : (m : ℕ) (o : Found) → find_of st.pool m ≡ o → not (is_nothing o) ≡ true → Held st.pool m
-        from m (At b) e t = (b, find_at st.pool m b e)
-        from m Nothing e t = absurd (false≢true t)
+        from : (m : ℕ) (o : Option ℕ) → find_of st.pool m ≡ o → not (is_none o) ≡ true → Held st.pool m
+        from m (Some b) e t = (b, find_at st.pool m b e)
+        from m None e t = absurd (false≢true t)
 
-        byte : (m b i : ℕ) → InBlock st.pool m b → i < block_length → find_of st.pool m ≡ At b → (t : Bool) → ltb i (slots_of_month m) ≡ t
-            → get_or st.store (place b i) no_rate ≡ to_byte (cond t (slot_rate st m i) none)
+        byte : (m b i : ℕ) → InBlock st.pool m b → i < block_length → find_of st.pool m ≡ Some b → (t : Bool) → ltb i (slots_of_month m) ≡ t
+            → get_or st.store (place b i) no_rate ≡ to_byte (cond t (slot_rate st m i) None)
         byte m b i k l e true q = rw e (sym (byte-same (get_or st.store (place b i) no_rate)))
         byte m b i k l e false q = past_end m b i k (ltb-false i (slots_of_month m) q) l
 
-        silent : (m i : ℕ) (o : Found) (t : Bool) → not (is_nothing o) ≡ false → cond t (rate_found o st.store i) none ≡ none
-        silent m i (At b) t e = absurd (true≢false e)
-        silent m i Nothing true e = refl
-        silent m i Nothing false e = refl
+        silent : (m i : ℕ) (o : Option ℕ) (t : Bool) → not (is_none o) ≡ false → cond t (rate_found o st.store i) None ≡ None
+        silent m i (Some b) t e = absurd (true≢false e)
+        silent m i None true e = refl
+        silent m i None false e = refl
 
     pub plain-own : Plain (view_in floor st)
     plain-own = record {
@@ -100,12 +98,12 @@ module _ (st : Stored) (full : length st.store ≡ store_length) (lent : sound_s
       ends = λ m i l. rw (le-ltb i (slots_of_month m) l);
     }
       where
-        rate : (m i r : ℕ) (t : Bool) → ltb i (slots_of_month m) ≡ t → (o : Found) → find_of st.pool m ≡ o
-            → cond t (rate_found o st.store i) none ≡ some r → r ≤ highest_rate
-        rate m i r true q (At b) f e =
+        rate : (m i r : ℕ) (t : Bool) → ltb i (slots_of_month m) ≡ t → (o : Option ℕ) → find_of st.pool m ≡ o
+            → cond t (rate_found o st.store i) None ≡ Some r → r ≤ highest_rate
+        rate m i r true q (Some b) f e =
             let legal = block-legal st.store m b i (ltb-true i (slots_of_month m) q) (sound-block m b (find_at st.pool m b f)) in
             rw (ap or_zero e) at legal
-        rate m i r true q Nothing f e = let z : ◌≡◌ {A = ℕ} 0 1 = cc in absurd (omega arith)
+        rate m i r true q None f e = let z : ◌≡◌ {A = ℕ} 0 1 = cc in absurd (omega arith)
         rate m i r false q o f e = let z : ◌≡◌ {A = ℕ} 0 1 = cc in absurd (omega arith)
 
 -- the bytes of a month's days decide its block's

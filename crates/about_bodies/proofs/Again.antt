@@ -1,11 +1,11 @@
 -- A body read, taken apart and written again is itself.
+use Rattle.std.specs.Prelude.{Ok, Option, None, Some, slice_get}
 use Prim.Native.Nat.{ℕ, suc, ◌≤◌, ◌<◌}
 use mathlib.Core.Path.{◌≡◌, ◌∙◌, refl, sym, ap, subst}
 use mathlib.Core.Bool.{true}
 use mathlib.Core.List.{List, [], ◌∷◌}
-use mathlib.Core.Option.{Option, none, some}
 use native.Mathlib.Omega.{arith}
-use lib.ListN.{length, get_elem?}
+use lib.ListN.{length}
 use Rattle.rules.specs.Digits.{same_bytes}
 use Rattle.rules.specs.Name.{format_number}
 use Rattle.rules.specs.Body.{Record, schedule, count_of, parse_body, every, is_schedule}
@@ -13,7 +13,6 @@ use Rattle.rules.specs.File.{File, file, read_file, records_in, flag_of}
 use Rattle.rules.specs.Lister.{record_count, rate_count}
 use Rattle.rules.specs.Writer.{Fields, bytes, written_of, write_body}
 use Rattle.rules.specs.declared.Format.{Format}
-use Rattle.rules.specs.declared.Written.{Written}
 use Rattle.rules.specs.Reading.{summary_of}
 use Rattle.rules.specs.declared.Summary.{Summary}
 use Rattle.laws.proofs.Tests.{join}
@@ -31,20 +30,20 @@ use Rattle.about_bodies.proofs.Written.{holds-bytes, first-bytes, rates-output}
 
 -- ---- the records share a schedule ID
 
-all_same : (v : List ℕ) (rs : List Record) → ((i : ℕ) → i < length rs → field_in Schedule (get_elem? rs i) ≡ v)
+all_same : (v : List ℕ) (rs : List Record) → ((i : ℕ) → i < length rs → field_in Schedule (slice_get rs i) ≡ v)
     → every (λ r. same_bytes r.schedule v) rs ≡ true
 unfolding every
 all_same v [] h = refl
 all_same v (r ∷ rs) h = join (equal-same (h 0 (omega arith))) (all_same v rs (λ i l. h (suc i) (omega arith)))
 
-shares : (rs : List Record) → ((i : ℕ) → i < length rs → field_in Schedule (get_elem? rs i) ≡ field_in Schedule (get_elem? rs 0)) → shared_schedule rs ≡ true
+shares : (rs : List Record) → ((i : ℕ) → i < length rs → field_in Schedule (slice_get rs i) ≡ field_in Schedule (slice_get rs 0)) → shared_schedule rs ≡ true
 shares [] h = refl
 shares (r ∷ rs) h = all_same r.schedule rs (λ i l. h (suc i) (omega arith))
 
 -- ---- the fields that are handed over are those of the records
 
 same-fields : (f : Format) (rs : List Record)
-    → let first = get_elem? rs 0 in
+    → let first = slice_get rs 0 in
     fields_of (format_number f) (field_in Plant first) (field_in Schedule first) (field_in Start first) (field_in Next first) (end_to_end rs) (flag_of rs)
     ≡ fields_in f rs
 same-fields f [] = refl
@@ -63,8 +62,8 @@ module _ (plant : Option (List ℕ)) (name body space out : List ℕ) (f : File)
   the-file : Taken body f
   the-file = schedule-read body f i (accepted plant name body f e)
 
-  parses : parse_body fmt body ≡ some (schedule rs)
-  parses = the-file.parses ∙ ap some the-file.is-schedule
+  parses : parse_body fmt body ≡ Some (schedule rs)
+  parses = the-file.parses ∙ ap Some the-file.is-schedule
 
   pub count-is : length rs ≡ count_of fmt
   count-is = the-file.records.count
@@ -72,7 +71,7 @@ module _ (plant : Option (List ℕ)) (name body space out : List ℕ) (f : File)
   pub record-count : record_count f.body ≡ count_of fmt
   record-count = ap record_count the-file.is-schedule ∙ count-is
 
-  pub record_is : (k : ℕ) → record_in fmt body k ≡ get_elem? rs k
+  pub record_is : (k : ℕ) → record_in fmt body k ≡ slice_get rs k
   unfolding record_in
   record_is k = rw parses refl
 
@@ -86,8 +85,8 @@ module _ (plant : Option (List ℕ)) (name body space out : List ℕ) (f : File)
   written id s h = go plant e id
     where
       go : (o : Option (List ℕ)) → read_file o name body ≡ file f → an_id o ≡ true → write_body (fields_in fmt rs) (length out) ≡ bytes body
-      go none q k = read-written name body f rs (length out) q the-file.is-schedule (shared_is s) h
-      go (some p) q k = read-written-with-plant p name body f rs (length out) k q the-file.is-schedule (shared_is s) h
+      go None q k = read-written name body f rs (length out) q the-file.is-schedule (shared_is s) h
+      go (Some p) q k = read-written-with-plant p name body f rs (length out) k q the-file.is-schedule (shared_is s) h
 
   module _ (x : Summary) (x≡ : x ≡ summary_of f) (room : x.rates ≤ length space) where
     format-is : x.format ≡ fmt
@@ -125,6 +124,6 @@ body-again plant name body space out x e id i s room h =
     let copied = rates-held plant name body space out f r.is i' x r.summary room in
     let again = fields-are plant name body space out f r.is i' x r.summary room in
     let n = rates-is plant name body space out f r.is i' x r.summary room in (
-      ap (λ (g : Format). written_of (rates_output g body (length space))) fm ∙ copied.answer ∙ ap (λ (k : ℕ). Written.Length k) (sym n),
+      ap (λ (g : Format). written_of (rates_output g body (length space))) fm ∙ copied.answer ∙ ap (λ (k : ℕ). Ok k) (sym n),
       holds-bytes out body (ap (λ (w : Fields). write_body w (length out)) again ∙ written plant name body space out f r.is i' id s' h),
     )

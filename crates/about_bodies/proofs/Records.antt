@@ -1,22 +1,21 @@
 -- The records that `locate` and `field_part` speak of are those that reading has.
+use Rattle.std.specs.Prelude.{Result, Ok, Err, None, Some}
 use Prim.Native.Nat.{ℕ}
 use mathlib.Core.Path.{◌≡◌, ◌∙◌, refl, sym, ap}
 use mathlib.Core.List.{List}
-use mathlib.Core.Option.{none, some}
 use native.Mathlib.Omega.{arith}
 use lib.ListN.{length, drop}
 use Rattle.rules.specs.Digits.{part}
 use Rattle.rules.specs.Body.{Record, record_at}
 use Rattle.rules.specs.declared.Format.{Format}
 use Rattle.rules.specs.declared.Format.TheVariants.{F203}
+use Rattle.rules.specs.declared.Cause.{Cause}
 use Rattle.form.specs.Walk.{record_start}
 use Rattle.form.proofs.Standing.{rates-full, record-whole}
 use Rattle.about_files.proofs.Accepted.{accepted}
 use Rattle.records.specs.Locating.{locate, from, size}
 use Rattle.records.specs.Reading.{field_of, record_in}
 use Rattle.records.specs.declared.Places.{Places}
-use Rattle.records.specs.declared.Located.{Located}
-use Rattle.records.specs.declared.Located.TheVariants.{At, Refused}
 use Rattle.records.specs.declared.Field.{Field}
 use Rattle.records.specs.declared.Field.TheVariants.{Schedule, Plant, Start, Rates, Flag, Checksum, Next}
 use Rattle.records.proofs.Bodies.{stands_facts}
@@ -32,9 +31,9 @@ same-records plant name body f i e = rw (accepted plant name body f e).parses re
 pub places-found : PlacesFound
 places-found f body i r e = go (locate f body i) refl
   where
-    go : (o : Located) → locate f body i ≡ o → (p : Places) × (locate f body i ≡ At p)
-    go (At p) q = (p, q)
-    go (Refused c) q = let z : none ≡ some r = sym (record-missing f body i (sym q)) ∙ e in let y : ◌≡◌ {A = ℕ} 0 1 = cc in absurd (omega arith)
+    go : (o : Result Places Cause) → locate f body i ≡ o → (p : Places) × (locate f body i ≡ Ok p)
+    go (Ok p) q = (p, q)
+    go (Err c) q = let z : None ≡ Some r = sym (record-missing f body i (sym q)) ∙ e in let y : ◌≡◌ {A = ℕ} 0 1 = cc in absurd (omega arith)
 
 -- the record at the places p
 module _ (f : Format) (body : List ℕ) (i : ℕ) (p : Places) (a : FoundAt f body i p) where

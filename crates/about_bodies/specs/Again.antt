@@ -1,17 +1,14 @@
 -- 'A body whose records share a schedule ID, read and written, is itself' (01, Beside the unit), of what the functions answer.
 -- Proved in proofs/Again.antt: `body-again`.
-use Rattle.std.specs.Prelude.{ℕ, ◌≤◌, ◌<◌, ◌≡◌, Bool, true, List, length, take}
-use Rattle.std.proofs.Math.Option.{Option, none, some}
+use Rattle.std.specs.Prelude.{ℕ, ◌≤◌, ◌<◌, ◌≡◌, Bool, true, List, length, take, Ok, Option, None, Some}
 use Rattle.rules.specs.Plant.{plant_id}
 use Rattle.rules.specs.Name.{format_number}
 use Rattle.rules.specs.Body.{count_of, is_schedule}
 use Rattle.rules.specs.File.{read_file}
 use Rattle.rules.specs.Writer.{Fields, written_of, buffer_after, write_body}
 use Rattle.rules.specs.declared.Format.{Format}
-use Rattle.rules.specs.declared.Written.{Written}
 use Rattle.rules.specs.Reading.{reading_of}
 use Rattle.rules.specs.declared.Summary.{Summary}
-use Rattle.rules.specs.declared.Reading.TheVariants.{Read}
 use Rattle.plan.specs.Fields.{fields_of}
 use Rattle.records.specs.Reading.{field_in, record_in, rates_output}
 use Rattle.records.specs.declared.Field.{Field}
@@ -20,8 +17,8 @@ use Rattle.about_bodies.specs.Written.{Holds}
 
 -- read without a plant, or for one whose ID is one
 abbrev pub an_id : Option (List ℕ) → Bool
-an_id none = true
-an_id (some plant) = plant_id plant
+an_id None = true
+an_id (Some plant) = plant_id plant
 
 -- a field of the first record
 abbrev pub first : Field → Format → List ℕ → List ℕ
@@ -46,11 +43,11 @@ Shared f body = (i : ℕ) → i < count_of f → field_in Schedule (record_in f 
 abbrev pub BodyAgain : Type 0
 BodyAgain =
     (plant : Option (List ℕ)) (name body space out : List ℕ) (x : Summary)
-    → reading_of (read_file plant name body) ≡ Read x
+    → reading_of (read_file plant name body) ≡ Ok x
     → an_id plant ≡ true
     → is_schedule x.format ≡ true
     → Shared x.format body
     → x.rates ≤ length space
     → length body ≤ length out
-    → (written_of (rates_output x.format body (length space)) ≡ Written.Length x.rates)
+    → (written_of (rates_output x.format body (length space)) ≡ Ok x.rates)
     × Holds (write_body (fields_again body x space) (length out)) out body

@@ -1,8 +1,6 @@
 -- The records that the functions of `records` speak of are those that reading has, and their fields stand at the places that `locate` gives.
 -- Proved in proofs/Records.antt: `same-records`, `places-found` and `places-hold`.
-use Rattle.std.specs.Prelude.{ℕ, ◌≡◌, List, length}
-use Rattle.std.proofs.Math.Option.{Option, some}
-use Rattle.std.proofs.Math.ListN.{get_elem?}
+use Rattle.std.specs.Prelude.{ℕ, ◌≡◌, List, length, Ok, Option, Some, slice_get}
 use Rattle.rules.specs.Digits.{part}
 use Rattle.rules.specs.Body.{Record}
 use Rattle.rules.specs.File.{File, file, read_file, records_in}
@@ -11,13 +9,12 @@ use Rattle.rules.specs.declared.Format.TheVariants.{F203}
 use Rattle.records.specs.Locating.{locate}
 use Rattle.records.specs.Reading.{record_in}
 use Rattle.records.specs.declared.Places.{Places}
-use Rattle.records.specs.declared.Located.TheVariants.{At}
 
 -- record i, as `locate` and `field_part` have it, is record i of the file that is read, for a plant or for none
 abbrev pub SameRecords : Type 0
 SameRecords =
     (plant : Option (List ℕ)) (name body : List ℕ) (f : File) (i : ℕ)
-    → read_file plant name body ≡ file f → record_in f.name.format body i ≡ get_elem? (records_in f.body) i
+    → read_file plant name body ≡ file f → record_in f.name.format body i ≡ slice_get (records_in f.body) i
 
 -- the record r stands at the places p of a body
 pub record FieldsAt (f : Format) (body : List ℕ) (p : Places) (r : Record) : Type 0 where
@@ -32,10 +29,10 @@ pub record FieldsAt (f : Format) (body : List ℕ) (p : Places) (r : Record) : T
 
 -- each record of a body is located
 abbrev pub PlacesFound : Type 0
-PlacesFound = (f : Format) (body : List ℕ) (i : ℕ) (r : Record) → record_in f body i ≡ some r → (p : Places) × (locate f body i ≡ At p)
+PlacesFound = (f : Format) (body : List ℕ) (i : ℕ) (r : Record) → record_in f body i ≡ Some r → (p : Places) × (locate f body i ≡ Ok p)
 
 -- and what is located is that record
 abbrev pub PlacesHold : Type 0
 PlacesHold =
     (f : Format) (body : List ℕ) (i : ℕ) (p : Places)
-    → locate f body i ≡ At p → (r : Record) × (record_in f body i ≡ some r) × FieldsAt f body p r
+    → locate f body i ≡ Ok p → (r : Record) × (record_in f body i ≡ Some r) × FieldsAt f body p r

@@ -1,11 +1,11 @@
 -- A body that C reads, takes apart and writes again is itself.
+use Rattle.std.specs.Prelude.{Result, Ok, Err, Option, None, Some, slice_get}
 use Prim.Native.Nat.{ℕ, zero, suc, ◌≤◌, ◌<◌}
 use mathlib.Core.Path.{◌≡◌, ◌∙◌, refl, sym, ap, subst}
 use mathlib.Core.Bool.{true, false≢true}
 use mathlib.Core.List.{List, [], ◌∷◌}
-use mathlib.Core.Option.{Option, none, some}
 use native.Mathlib.Omega.{arith}
-use lib.ListN.{length, get_elem?, take}
+use lib.ListN.{length, take}
 use Rattle.rules.specs.Causes.{number_of}
 use Rattle.rules.specs.Digits.{part}
 use Rattle.rules.specs.Name.{format_number}
@@ -17,8 +17,6 @@ use Rattle.rules.specs.declared.Format.{Format}
 use Rattle.rules.specs.declared.Format.TheVariants.{F201, F202, F203, F301}
 use Rattle.rules.specs.Reading.{summary_of, reading_of}
 use Rattle.rules.specs.declared.Summary.{Summary}
-use Rattle.rules.specs.declared.Reading.{Reading}
-use Rattle.rules.specs.declared.Reading.TheVariants.{Read, Refused}
 use Rattle.form.proofs.Walk.{count-positive}
 use Rattle.about_files.proofs.Causes.{numbered}
 use Rattle.about_files.proofs.Name.{format_back}
@@ -26,8 +24,8 @@ use Rattle.about_files.proofs.Accepted.{FileRead, file-read}
 use Rattle.plan.specs.Fields.{fields_of}
 use Rattle.records.specs.Locating.{locate}
 use Rattle.records.specs.Reading.{field_in, record_in, rates_output}
-use Rattle.records.specs.declared.Located.{Located}
 use Rattle.records.specs.declared.Field.TheVariants.{Schedule, Plant, Start, Next}
+use Rattle.records.specs.declared.Places.{Places}
 use Rattle.c_answers.specs.Answers.{file_numbers, written_numbers}
 use Rattle.c_bodies.specs.Places.{places_numbers}
 use Rattle.c_bodies.specs.declared.RecordPlaces.{RecordPlaces}
@@ -58,7 +56,7 @@ record LocatedAt (f : Format) (body : List ℕ) (i : ℕ) : Type 0 where
   start : part body (places_numbers (locate f body i)).start 12 ≡ field_in Start (record_in f body i)
   next : f ≡ F203 → part body (places_numbers (locate f body i)).next 14 ≡ field_in Next (record_in f body i)
 
-located-at : (f : Format) (body : List ℕ) (i : ℕ) (r : Record) → record_in f body i ≡ some r → LocatedAt f body i
+located-at : (f : Format) (body : List ℕ) (i : ℕ) (r : Record) → record_in f body i ≡ Some r → LocatedAt f body i
 located-at f body i r h =
     let p = (places-found f body i r h).0 in
     let e = (places-found f body i r h).1 in
@@ -66,14 +64,14 @@ located-at f body i r h =
     let q = d.1 in
     let a = d.2 in
     record {
-      cause = ap (λ (o : Located). (places_numbers o).cause) e;
-      schedule = ap (λ (o : Located). part body (places_numbers o).schedule 10) e ∙ a.schedule ∙ sym (ap (field_in Schedule) q);
-      plant = ap (λ (o : Located). part body (places_numbers o).plant 26) e ∙ a.plant ∙ sym (ap (field_in Plant) q);
-      start = ap (λ (o : Located). part body (places_numbers o).start 12) e ∙ a.start ∙ sym (ap (field_in Start) q);
-      next = λ k. ap (λ (o : Located). part body (places_numbers o).next 14) e ∙ a.next k ∙ sym (ap (field_in Next) q);
+      cause = ap (λ (o : Result Places Cause). (places_numbers o).cause) e;
+      schedule = ap (λ (o : Result Places Cause). part body (places_numbers o).schedule 10) e ∙ a.schedule ∙ sym (ap (field_in Schedule) q);
+      plant = ap (λ (o : Result Places Cause). part body (places_numbers o).plant 26) e ∙ a.plant ∙ sym (ap (field_in Plant) q);
+      start = ap (λ (o : Result Places Cause). part body (places_numbers o).start 12) e ∙ a.start ∙ sym (ap (field_in Start) q);
+      next = λ k. ap (λ (o : Result Places Cause). part body (places_numbers o).next 14) e ∙ a.next k ∙ sym (ap (field_in Next) q);
     }
 
-some_at : (rs : List Record) (i : ℕ) → i < length rs → (r : Record) × (get_elem? rs i ≡ some r)
+some_at : (rs : List Record) (i : ℕ) → i < length rs → (r : Record) × (slice_get rs i ≡ Some r)
 some_at [] i h = absurd (omega arith)
 some_at (r ∷ rs) zero h = (r, refl)
 some_at (r ∷ rs) (suc i) h = some_at rs i (omega arith)
@@ -92,12 +90,12 @@ same-written F301 plant plant' ident ident' start start' next next' rates rates'
 
 -- ---- a file that was read
 
-module _ (name body space out : List ℕ) (s : Summary) (q : reading_of (read_file none name body) ≡ Read s) (i : is_schedule s.format ≡ true) where
+module _ (name body space out : List ℕ) (s : Summary) (q : reading_of (read_file None name body) ≡ Ok s) (i : is_schedule s.format ≡ true) where
   abbrev f : Format
   f = s.format
 
-  the-read : FileRead (read_file none name body) s
-  the-read = file-read (read_file none name body) s q
+  the-read : FileRead (read_file None name body) s
+  the-read = file-read (read_file None name body) s q
 
   abbrev g : File
   g = the-read.the-file
@@ -112,35 +110,35 @@ module _ (name body space out : List ℕ) (s : Summary) (q : reading_of (read_fi
   unfolding summary_of
   records-are =
       ap (λ (y : Summary). y.records) the-read.summary
-      ∙ record-count none name body space out g the-read.is i'
+      ∙ record-count None name body space out g the-read.is i'
       ∙ sym (ap count_of format-is)
 
   one_at : (k : ℕ) → k < count_of f → LocatedAt f body k
   one_at k h =
-      let c = count-is none name body space out g the-read.is i' in
+      let c = count-is None name body space out g the-read.is i' in
       let e = ap count_of format-is in
       let r = some_at (records_in g.body) k (omega arith) in
-      located-at f body k r.0 (subst (λ (z : Format). record_in z body k ≡ some r.0) (sym format-is) (record_is none name body space out g the-read.is i' k ∙ r.1))
+      located-at f body k r.0 (subst (λ (z : Format). record_in z body k ≡ Some r.0) (sym format-is) (record_is None name body space out g the-read.is i' k ∙ r.1))
 
   -- the number of the format stands for it
-  places_is : (k : ℕ) → places (file_numbers (Read s)) body k ≡ places_numbers (locate f body k)
+  places_is : (k : ℕ) → places (file_numbers (Ok s)) body k ≡ places_numbers (locate f body k)
   places_is k = ap (λ (o : Option Format). places_numbers (locate_by o body k)) (format_back f)
 
-  schedule-at : (k : ℕ) → k < count_of f → part body (places (file_numbers (Read s)) body k).schedule 10 ≡ field_in Schedule (record_in f body k)
+  schedule-at : (k : ℕ) → k < count_of f → part body (places (file_numbers (Ok s)) body k).schedule 10 ≡ field_in Schedule (record_in f body k)
   schedule-at k h = ap (λ (p : RecordPlaces). part body p.schedule 10) (places_is k) ∙ (one_at k h).schedule
 
-  rates-same : copied (file_numbers (Read s)) body space ≡ take s.rates (buffer_after (rates_output f body (length space)) space)
+  rates-same : copied (file_numbers (Ok s)) body space ≡ take s.rates (buffer_after (rates_output f body (length space)) space)
   rates-same = ap (λ (o : Option Format). take s.rates (buffer_after (rates_by o body (length space)) space)) (format_back f)
 
-  written_same : write_body (fields_from_c (file_numbers (Read s)) body space) (length out) ≡ write_body (fields_again body s space) (length out)
+  written_same : write_body (fields_from_c (file_numbers (Ok s)) body space) (length out) ≡ write_body (fields_again body s space) (length out)
   written_same =
       let z = one_at 0 (count-positive f) in
       same-written f
-      (part body (places (file_numbers (Read s)) body 0).plant 26) (field_in Plant (record_in f body 0))
-      (part body (places (file_numbers (Read s)) body 0).schedule 10) (field_in Schedule (record_in f body 0))
-      (part body (places (file_numbers (Read s)) body 0).start 12) (field_in Start (record_in f body 0))
-      (part body (places (file_numbers (Read s)) body 0).next 14) (field_in Next (record_in f body 0))
-      (copied (file_numbers (Read s)) body space) (take s.rates (buffer_after (rates_output f body (length space)) space))
+      (part body (places (file_numbers (Ok s)) body 0).plant 26) (field_in Plant (record_in f body 0))
+      (part body (places (file_numbers (Ok s)) body 0).schedule 10) (field_in Schedule (record_in f body 0))
+      (part body (places (file_numbers (Ok s)) body 0).start 12) (field_in Start (record_in f body 0))
+      (part body (places (file_numbers (Ok s)) body 0).next 14) (field_in Next (record_in f body 0))
+      (copied (file_numbers (Ok s)) body space) (take s.rates (buffer_after (rates_output f body (length space)) space))
       s.flag (length out) i
       (ap (λ (p : RecordPlaces). part body p.plant 26) (places_is 0) ∙ z.plant)
       (schedule-at 0 (count-positive f))
@@ -148,11 +146,11 @@ module _ (name body space out : List ℕ) (s : Summary) (q : reading_of (read_fi
       (λ k. ap (λ (p : RecordPlaces). part body p.next 14) (places_is 0) ∙ z.next k)
       rates-same
 
-  again : ((k : ℕ) → k < s.records → part body (places (file_numbers (Read s)) body k).schedule 10 ≡ part body (places (file_numbers (Read s)) body 0).schedule 10)
-      → s.rates ≤ length space → length body ≤ length out → Again (file_numbers (Read s)) body space out
+  again : ((k : ℕ) → k < s.records → part body (places (file_numbers (Ok s)) body k).schedule 10 ≡ part body (places (file_numbers (Ok s)) body 0).schedule 10)
+      → s.rates ≤ length space → length body ≤ length out → Again (file_numbers (Ok s)) body space out
   again shared room h =
       let n = records-are in
-      let done = body-again none name body space out s q refl i
+      let done = body-again None name body space out s q refl i
       (λ k l. sym (schedule-at k l) ∙ shared k (omega arith) ∙ schedule-at 0 (count-positive f)) room h in
       record {
         located = λ k l. ap (λ (p : RecordPlaces). p.cause) (places_is k) ∙ (one_at k (omega arith)).cause;
@@ -162,8 +160,8 @@ module _ (name body space out : List ℕ) (s : Summary) (q : reading_of (read_fi
       }
 
 pub body-again-from-c : BodyAgainFromC
-body-again-from-c name body space out = go (reading_of (read_file none name body)) refl
+body-again-from-c name body space out = go (reading_of (read_file None name body)) refl
   where
-    go : (r : Reading) → reading_of (read_file none name body) ≡ r → AgainFrom (file_numbers r) body space out
-    go (Read s) q c other shared room h = again name body space out s q (scheduled s.format other) shared room h
-    go (Refused k) q c other shared room h = absurd (positive k c)
+    go : (r : Result Summary Cause) → reading_of (read_file None name body) ≡ r → AgainFrom (file_numbers r) body space out
+    go (Ok s) q c other shared room h = again name body space out s q (scheduled s.format other) shared room h
+    go (Err k) q c other shared room h = absurd (positive k c)

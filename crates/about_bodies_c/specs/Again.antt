@@ -1,7 +1,6 @@
 -- 'A body whose records share a schedule ID, read and written, is itself' (01, Beside the unit), of what the exported functions answer.
 -- Proved in proofs/Again.antt: `body-again-from-c`.
-use Rattle.std.specs.Prelude.{ℕ, ◌≤◌, ◌<◌, ◌≡◌, List, ◌++◌, length, take, drop}
-use Rattle.std.proofs.Math.Option.{none}
+use Rattle.std.specs.Prelude.{ℕ, ◌≤◌, ◌<◌, ◌≡◌, List, ◌++◌, length, take, drop, None}
 use Rattle.rules.specs.Digits.{part}
 use Rattle.rules.specs.Name.{format_of}
 use Rattle.rules.specs.File.{read_file}
@@ -45,4 +44,4 @@ AgainFrom x body space out =
     → Again x body space out
 
 abbrev pub BodyAgainFromC : Type 0
-BodyAgainFromC = (name body space out : List ℕ) → AgainFrom (file_numbers (reading_of (read_file none name body))) body space out
+BodyAgainFromC = (name body space out : List ℕ) → AgainFrom (file_numbers (reading_of (read_file None name body))) body space out

@@ -1,8 +1,7 @@
 -- C tied to the theorems about files: what the contract of each exported function that reads, writes or takes apart a file says of its result, and of the
 -- buffer that it was lent. `Learnt` is a function's contract as a caller gets it: the `ensures` lines of crates/jagwelu/src themselves, and no copy of them.
 -- Proved in proofs/Exports.antt: `files-say` and `files-ask`.
-use Rattle.std.specs.Prelude.{ℕ, ◌≡◌, length}
-use Rattle.std.proofs.Math.Option.{none, some}
+use Rattle.std.specs.Prelude.{ℕ, ◌≡◌, length, None, Some}
 use denote.Triple.Clauses.{Lasts, at_exit}
 use Rattle.rules.specs.Name.{format_of}
 use Rattle.rules.specs.File.{read_file}
@@ -30,9 +29,9 @@ use Rattle.jagwelu.proofs.jag_error_file.Reads as jag-error-file
 -- write has some last value (w), and what a caller sees of the parameters afterwards is e
 pub record EachFileSays : Type 0 where
   pub read : (κs : _) (name body : _) (r : FileAnswer) (e : _) → jag-read.Learnt κs (name, (body, tt)) r e
-      → r ≡ file_numbers (reading_of (read_file none name.now body.now))
+      → r ≡ file_numbers (reading_of (read_file None name.now body.now))
   pub read_for : (κs : _) (plant name body : _) (r : FileAnswer) (e : _) → jag-read-for.Learnt κs (plant, (name, (body, tt))) r e
-      → r ≡ file_numbers (reading_of (read_file (some plant.now) name.now body.now))
+      → r ≡ file_numbers (reading_of (read_file (Some plant.now) name.now body.now))
   pub located : (κs : _) (format : ℕ) (body : _) (index : ℕ) (r : RecordPlaces) (e : _) → jag-record.Learnt κs (format, (body, (index, tt))) r e
       → r ≡ places_numbers (locate_by (format_of format) body.now index)
   pub copied : (κs : _) (format : ℕ) (body out : _) (r : WrittenBytes) (w : Lasts copying.ended κs (format, (body, (out, tt))))

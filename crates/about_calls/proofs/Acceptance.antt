@@ -1,4 +1,5 @@
 -- Every lawful file that fits is accepted.
+use Rattle.std.specs.Prelude.{Option, Some, None, is_none}
 use Prim.Native.Nat.{ℕ, ◌+◌, ◌≤◌}
 use mathlib.Core.Path.{◌≡◌, refl, sym, ap, ◌∙◌}
 use mathlib.Core.Bool.{true, false, not, ◌&&◌, ◌||◌}
@@ -17,11 +18,9 @@ use Rattle.laws.proofs.Tests.{both, isnt}
 use Rattle.about_files.proofs.Reading.{taken-exactly}
 use Rattle.pool.specs.Blocks.{find_of, free_count}
 use Rattle.pool.specs.Held.{Held, Sound, held_months, sound_pool}
-use Rattle.pool.specs.declared.Found.{Found}
-use Rattle.pool.specs.declared.Found.TheVariants.{At, Nothing}
 use Rattle.pool.proofs.Laws.{find_at, find_in, free-is, months-held, months-once, held-months, months-few}
 use Rattle.pool.proofs.SoundLaws.{pool-facts}
-use Rattle.schedule.specs.Stored.{meets, missing, is_nothing}
+use Rattle.schedule.specs.Stored.{meets, missing}
 use Rattle.about_store.specs.Run.{GoodFile, run_start, run_length}
 use Rattle.about_store.proofs.Rooms.{any-run}
 use Rattle.about_store.proofs.Counts.{count_add, count-list, count_same, member-mem, mem-member, one_more}
@@ -29,7 +28,6 @@ use Rattle.about_store.proofs.Laws.{taken-good}
 use Rattle.unit.specs.Values.{is_sound}
 use Rattle.taking.specs.Taken.{outcome_taken, full_row}
 use Rattle.unit.specs.declared.Unit.{Unit}
-use Rattle.unit.specs.declared.Clock.TheVariants.{At}
 use Rattle.unit.proofs.CallLaws.{sound-is}
 use Rattle.about_calls.specs.Acceptance.{holds_month, together, AcceptsLawful}
 
@@ -38,7 +36,7 @@ use Rattle.about_calls.specs.Acceptance.{holds_month, together, AcceptsLawful}
 pub sound-pool : (u : Unit) → is_sound u ≡ true → Sound u.pool u.floor
 sound-pool u e =
     let q = Rattle.rules.specs.Store.sound_requests (Rattle.plant.specs.Plant.settings_of u.plant) (Rattle.polling.specs.Requests.requests_of u.requests) in
-    let c = Rattle.rules.specs.Store.sound_clock (Rattle.unit.specs.Values.clock_of u.clock) in
+    let c = Rattle.rules.specs.Store.sound_clock (u.clock) in
     let v = Rattle.plant.specs.Plant.valid_plant u.plant && ltb u.floor month_count in
     let s = sound_pool u.pool u.floor in
     let e₃ = both (v && s && q && c) _ (sym (sound-is u) ∙ e) in
@@ -51,16 +49,16 @@ module _ (u : Unit) (good : is_sound u ≡ true) where
   facts = sound-pool u good
 
   -- a month has a block exactly where it is held
-  nothing-held : (m : ℕ) → is_nothing (find_of u.pool m) ≡ not (holds_month u m)
+  nothing-held : (m : ℕ) → is_none (find_of u.pool m) ≡ not (holds_month u m)
   nothing-held m = rw (held-months block_count u.pool) (go (find_of u.pool m) refl)
     where
-      go : (o : Found) → find_of u.pool m ≡ o → is_nothing o ≡ not (member m (held_months u.pool))
-      go (At b) e = rw (mem-member m (held_months u.pool) ((months-held u.pool m).1 (b, find_at u.pool m b e)))
-      go Nothing e = rw (isnt (λ d. none-at e ((months-held u.pool m).0 (member-mem m (held_months u.pool) d))))
+      go : (o : Option ℕ) → find_of u.pool m ≡ o → is_none o ≡ not (member m (held_months u.pool))
+      go (Some b) e = rw (mem-member m (held_months u.pool) ((months-held u.pool m).1 (b, find_at u.pool m b e)))
+      go None e = rw (isnt (λ d. none-at e ((months-held u.pool m).0 (member-mem m (held_months u.pool) d))))
         where
-          none-at : find_of u.pool m ≡ Nothing → Held u.pool m → ⊥
+          none-at : find_of u.pool m ≡ None → Held u.pool m → ⊥
           none-at e h =
-              let at : At h.0 ≡ Nothing = sym (find_in u.pool u.floor m h.0 facts h.1) ∙ e in
+              let at : Some h.0 ≡ None = sym (find_in u.pool u.floor m h.0 facts h.1) ∙ e in
               let z : ◌≡◌ {A = ℕ} 0 1 = cc in
               omega arith
 
@@ -76,7 +74,7 @@ module _ (u : Unit) (good : is_sound u ≡ true) where
   unfolding together missing
   together-is f g =
       let rs = records_in f.body in
-      count_add month_count (holds_month u) (λ m. leb u.floor m && meets m (run_start rs) (run_length rs) && is_nothing (find_of u.pool m))
+      count_add month_count (holds_month u) (λ m. leb u.floor m && meets m (run_start rs) (run_length rs) && is_none (find_of u.pool m))
       (λ m. leb u.floor m && any_record m rs || holds_month u m)
       (λ m. rw (any-run m (run_start rs) rs g, nothing-held m) (one_more (leb u.floor m) (meets m (run_start rs) (run_length rs)) (holds_month u m)))
 

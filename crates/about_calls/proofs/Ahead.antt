@@ -1,9 +1,9 @@
 -- The machine's floor is never behind its clock's month by more than one.
+use Rattle.std.specs.Prelude.{Option, None, Some}
 use Prim.Native.Nat.{ℕ, zero, suc, ◌-◌, ◌≤◌}
 use mathlib.Core.Path.{◌≡◌}
 use mathlib.Core.Bool.{Bool, true, false, cond}
 use mathlib.Core.List.{List, [], ◌∷◌}
-use mathlib.Core.Option.{Option, none, some}
 use native.Mathlib.Omega.{arith}
 use lib.Dec.{leb, ltb, eqb}
 use Rattle.rules.specs.Calendar.{month_of, end_of_time, slot_count}
@@ -17,7 +17,7 @@ use Rattle.rules.specs.declared.Cause.{Cause}
 use Rattle.about_calls.proofs.Options.{none-some, some_same}
 
 abbrev pub Ahead : Machine → Type 0
-Ahead M = (t : ℕ) → M.clock ≡ some t → month_of t - 1 ≤ M.floor
+Ahead M = (t : ℕ) → M.clock ≡ Some t → month_of t - 1 ≤ M.floor
 
 set-ahead : (t : ℕ) (M : Machine) → Ahead (set_clock t M)
 unfolding set_clock
@@ -41,8 +41,8 @@ tick-ahead s t M h = go M.clock
     later c false = seconds-ahead s (t - c) c M h
 
     go : (o : Option ℕ) → Ahead (tick_from s t o M)
-    go none = set-ahead t M
-    go (some c) = later c (leb t c)
+    go None = set-ahead t M
+    go (Some c) = later c (leb t c)
 
 -- ---- a step
 
@@ -51,8 +51,8 @@ check-ahead true c next M h k = h
 check-ahead false c next M h k = k
 
 clock-ahead : (o : Option ℕ) (next : ℕ → Step) (M : Machine) → ((t : ℕ) → Ahead (next t).1) → Ahead M → Ahead (at_clock o next M).1
-clock-ahead none next M h k = k
-clock-ahead (some t) next M h k = h t
+clock-ahead None next M h k = k
+clock-ahead (Some t) next M h k = h t
 
 file-ahead : (t : ℕ) (f : File) (M : Machine) → Ahead M → Ahead (with_file t f M)
 unfolding with_file

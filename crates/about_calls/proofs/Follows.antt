@@ -1,9 +1,9 @@
 -- The relation that every call keeps: the unit's values are the machine's, and pool and store agree with its files.
+use Rattle.std.specs.Prelude.{None}
 use Prim.Native.Nat.{ℕ, ◌*◌, ◌≤◌, ◌<◌}
 use mathlib.Core.Path.{◌≡◌, refl, sym, ◌∙◌}
 use mathlib.Core.Bool.{true, false, and-false}
 use mathlib.Core.List.{[], map}
-use mathlib.Core.Option.{none}
 use native.Mathlib.Omega.{arith}
 use lib.Dec.{leb}
 use lib.ListN.{length}
@@ -19,7 +19,7 @@ use Rattle.polling.specs.Requests.{requests_of}
 use Rattle.schedule.specs.Stored.{Stored}
 use Rattle.about_store.specs.Agrees.{Agrees}
 use Rattle.about_store.proofs.Laws.{pool-sound, store-sound, months-agree, blocks-agree}
-use Rattle.unit.specs.Values.{clock_of, is_sound, fresh_pool}
+use Rattle.unit.specs.Values.{is_sound, fresh_pool}
 use Rattle.calls.specs.Step.{State}
 use Rattle.unit.proofs.CallLaws.{sound-is}
 use Rattle.about_calls.specs.Theorem.{Holds}
@@ -30,13 +30,13 @@ stored s = record { pool = s.unit.pool; store = s.store }
 -- a store of 01's length agrees with the machine's files; with any other no file was ever taken and the clock never set
 pub data Kept (s : State) (M : Machine) : Type 0 where
   agrees : length s.store ≡ store_length → Agrees (stored s) M → Kept s M
-  apart : (length s.store ≡ store_length → ⊥) → s.unit.pool ≡ fresh_pool → M.files ≡ [] → M.floor ≡ 0 → M.clock ≡ none → Kept s M
+  apart : (length s.store ≡ store_length → ⊥) → s.unit.pool ≡ fresh_pool → M.files ≡ [] → M.floor ≡ 0 → M.clock ≡ None → Kept s M
 
 -- p is the plant, n the store's length
 pub record Follows (p : Plant) (n : ℕ) (s : State) (M : Machine) : Type 0 where
   pub plant : s.unit.plant ≡ p
   pub size : length s.store ≡ n
-  pub clock : clock_of s.unit.clock ≡ M.clock
+  pub clock : s.unit.clock ≡ M.clock
   pub floor : s.unit.floor ≡ M.floor
   pub requests : requests_of s.unit.requests ≡ M.requests
   pub command : s.unit.command ≡ M.command

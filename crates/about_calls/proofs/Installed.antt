@@ -1,16 +1,15 @@
 -- From install to the theorem: what installing gives, and what every list of calls on it comes to.
+use Rattle.std.specs.Prelude.{Ok, Err, None, Some}
 use Prim.Native.Nat.{ℕ}
 use mathlib.Core.Path.{◌≡◌, refl, sym, ap, ◌∙◌, subst}
 use mathlib.Core.Bool.{Bool, true, false, cond, not, ◌&&◌}
 use mathlib.Core.List.{List, []}
-use mathlib.Core.Option.{none, some}
 use Rattle.rules.specs.Plant.{Settings, plant_id, mac_address, valid_settings, installing}
 use Rattle.rules.specs.Store.{fresh_values, block_count}
 use Rattle.pool.specs.Blocks.{all_free}
 use Rattle.rules.specs.Machine.{fresh_machine, replies as machine_replies, after as machine_after}
 use Rattle.rules.specs.Table.{first_of}
 use Rattle.rules.specs.Rows.{install_rows}
-use Rattle.rules.specs.declared.Answer.{Answer}
 use Rattle.rules.specs.declared.Cause.{Cause}
 use Rattle.about_files.proofs.Table.{answer-refuses, answer-given}
 use Rattle.plant.specs.Plant.{settings_of, valid_plant, plant_of, no_plant, installed}
@@ -37,8 +36,8 @@ install-first : (id mac : List ℕ) (set : Settings) → (installed_unit id mac 
 unfolding installed_unit installed installing install_rows first_of
 install-first id mac set = go (plant_id id) (mac_address mac && valid_settings set)
   where
-    go : (x y : Bool) → cond x (cond y Answer.Accepted (Answer.Refused Cause.Setting)) (Answer.Refused Cause.PlantId)
-        ≡ answer_of (cond (not x) (some Cause.PlantId) (cond (not y) (some Cause.Setting) none))
+    go : (x y : Bool) → cond x (cond y (Ok tt) (Err Cause.Setting)) (Err Cause.PlantId)
+        ≡ answer_of (cond (not x) (Some Cause.PlantId) (cond (not y) (Some Cause.Setting) None))
     go true true = refl
     go true false = refl
     go false y = refl
@@ -46,15 +45,15 @@ install-first id mac set = go (plant_id id) (mac_address mac && valid_settings s
 pub install-refuses : InstallRefuses
 unfolding install_rows
 install-refuses id mac set k =
-    rw (install-first id mac set) (answer-refuses Answer.Refused Answer.Accepted cause_in (λ c. refl) refl (install_rows id mac set) refl k)
+    rw (install-first id mac set) (answer-refuses Err (Ok tt) cause_in (λ c. refl) refl (install_rows id mac set) refl k)
 
 pub install-accepts : InstallAccepts
 install-accepts id mac set =
-    rw (install-first id mac set) (answer-given Answer.Refused Answer.Accepted cause_in (λ c. refl) refl (install_rows id mac set))
+    rw (install-first id mac set) (answer-given Err (Ok tt) cause_in (λ c. refl) refl (install_rows id mac set))
 
 -- ---- accepted: the fresh unit of a valid plant
 
-module _ (id mac : List ℕ) (set : Settings) (e : (installed_unit id mac set).answer ≡ Answer.Accepted) where
+module _ (id mac : List ℕ) (set : Settings) (e : (installed_unit id mac set).answer ≡ Ok tt) where
   pub fresh-of : (installed_unit id mac set).unit ≡ fresh_unit (plant_of id mac set)
   unfolding installed_unit installed
   fresh-of = ap (λ (r : Installed). fresh_unit r.plant) (accepted-keeps id mac set e)
@@ -110,7 +109,7 @@ none-sound = sound-is (fresh_unit no_plant) ∙ rw no-plant refl
 pub refused-install : RefusedInstall
 unfolding installed_unit installed request_of
 refused-install id mac set k e store cs =
-    let none : (installed id mac set).plant ≡ no_plant = ap (λ (r : Installed). r.plant) (refused_none id mac set k e) in
-    let bad : is_sound (fresh_unit (installed id mac set).plant) ≡ false = rw none none-sound in
+    let nothing : (installed id mac set).plant ≡ no_plant = ap (λ (r : Installed). r.plant) (refused_none id mac set k e) in
+    let bad : is_sound (fresh_unit (installed id mac set).plant) ≡ false = rw nothing none-sound in
     let r = unsound_list (installed_state id mac set store) bad cs in
     (r.0, r.1, λ segment room. rw bad refl)

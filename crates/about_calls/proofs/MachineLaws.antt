@@ -1,9 +1,9 @@
 -- What the machine answers at each of its refusals, and where it accepts: one law for each.
+use Rattle.std.specs.Prelude.{Option, None, Some}
 use Prim.Native.Nat.{ℕ, zero, suc}
 use mathlib.Core.Path.{◌≡◌, refl, ap, ◌∙◌}
 use mathlib.Core.Bool.{Bool, true, false, ◌&&◌}
 use mathlib.Core.List.{List, []}
-use mathlib.Core.Option.{Option, none, some}
 use lib.Dec.{leb, ltb, eqb}
 use Rattle.rules.specs.Plant.{last_digit}
 use Rattle.rules.specs.Calendar.{end_of_time, slot_count, month_count}
@@ -35,11 +35,11 @@ held_none M e = count_none month_count (is_held M) (λ m. files-none M m e)
 module _ (w : Told) (M : Machine) where
   -- ---- due
 
-  pub due-unset : M.clock ≡ none → step w due M ≡ refusal Cause.ClockUnset M
+  pub due-unset : M.clock ≡ None → step w due M ≡ refusal Cause.ClockUnset M
   unfolding step
   due-unset e = ap (λ (o : Option ℕ). at_clock o (λ t. (due_of w.settings (last_digit w.plant) t M.requests, M)) M) e
 
-  pub due-set : (t : ℕ) → M.clock ≡ some t → step w due M ≡ (due_of w.settings (last_digit w.plant) t M.requests, M)
+  pub due-set : (t : ℕ) → M.clock ≡ Some t → step w due M ≡ (due_of w.settings (last_digit w.plant) t M.requests, M)
   unfolding step
   due-set t e = ap (λ (o : Option ℕ). at_clock o (λ t. (due_of w.settings (last_digit w.plant) t M.requests, M)) M) e
 
@@ -49,17 +49,17 @@ module _ (w : Told) (M : Machine) where
     abbrev reported : ℕ → Step
     reported t = check (is_status status) Cause.Range (accepted, with_requests (failed w.settings (last_digit w.plant) kind t status M.requests) M) M
 
-    pub failure-unset : M.clock ≡ none → step w (failure kind status) M ≡ refusal Cause.ClockUnset M
+    pub failure-unset : M.clock ≡ None → step w (failure kind status) M ≡ refusal Cause.ClockUnset M
     unfolding step
     failure-unset e = ap (λ (o : Option ℕ). at_clock o reported M) e
 
-    pub failure-status : (t : ℕ) → M.clock ≡ some t → is_status status ≡ false → step w (failure kind status) M ≡ refusal Cause.Range M
+    pub failure-status : (t : ℕ) → M.clock ≡ Some t → is_status status ≡ false → step w (failure kind status) M ≡ refusal Cause.Range M
     unfolding step
     failure-status t e f =
         ap (λ (o : Option ℕ). at_clock o reported M) e
         ∙ ap (λ (b : Bool). check b Cause.Range (accepted, with_requests (failed w.settings (last_digit w.plant) kind t status M.requests) M) M) f
 
-    pub failure-done : (t : ℕ) → M.clock ≡ some t → is_status status ≡ true
+    pub failure-done : (t : ℕ) → M.clock ≡ Some t → is_status status ≡ true
         → step w (failure kind status) M ≡ (accepted, with_requests (failed w.settings (last_digit w.plant) kind t status M.requests) M)
     unfolding step
     failure-done t e f =
@@ -99,15 +99,15 @@ module _ (w : Told) (M : Machine) where
       unfolding step
       lent-ceiling o e = ap (λ (b : Bool). check b Cause.StoreLength (at_clock M.clock asked M) M) l ∙ ap (λ (o : Option ℕ). at_clock o asked M) e
 
-      pub ceiling-unset : M.clock ≡ none → step w (ceiling_of slot) M ≡ refusal Cause.ClockUnset M
-      ceiling-unset e = lent-ceiling none e
+      pub ceiling-unset : M.clock ≡ None → step w (ceiling_of slot) M ≡ refusal Cause.ClockUnset M
+      ceiling-unset e = lent-ceiling None e
 
-      pub ceiling-range : (t : ℕ) → M.clock ≡ some t → ltb slot slot_count ≡ false → step w (ceiling_of slot) M ≡ refusal Cause.Range M
-      ceiling-range t e f = lent-ceiling (some t) e ∙ ap (λ (b : Bool). check b Cause.Range (ceiling_reply w.settings (rate_of M slot), M) M) f
+      pub ceiling-range : (t : ℕ) → M.clock ≡ Some t → ltb slot slot_count ≡ false → step w (ceiling_of slot) M ≡ refusal Cause.Range M
+      ceiling-range t e f = lent-ceiling (Some t) e ∙ ap (λ (b : Bool). check b Cause.Range (ceiling_reply w.settings (rate_of M slot), M) M) f
 
-      pub ceiling-done : (t : ℕ) → M.clock ≡ some t → ltb slot slot_count ≡ true
+      pub ceiling-done : (t : ℕ) → M.clock ≡ Some t → ltb slot slot_count ≡ true
           → step w (ceiling_of slot) M ≡ (ceiling_reply w.settings (rate_of M slot), M)
-      ceiling-done t e f = lent-ceiling (some t) e ∙ ap (λ (b : Bool). check b Cause.Range (ceiling_reply w.settings (rate_of M slot), M) M) f
+      ceiling-done t e f = lent-ceiling (Some t) e ∙ ap (λ (b : Bool). check b Cause.Range (ceiling_reply w.settings (rate_of M slot), M) M) f
 
   -- ---- what was read, taken
 
@@ -122,13 +122,13 @@ module _ (w : Told) (M : Machine) where
       lent-take : (c : Option ℕ) → M.clock ≡ c → take_step w o M ≡ at_clock c outcome M
       lent-take c e = ap (λ (b : Bool). check b Cause.StoreLength (at_clock M.clock outcome M) M) l ∙ ap (λ (x : Option ℕ). at_clock x outcome M) e
 
-      pub take-unset : M.clock ≡ none → take_step w o M ≡ refusal Cause.ClockUnset M
-      take-unset e = lent-take none e
+      pub take-unset : M.clock ≡ None → take_step w o M ≡ refusal Cause.ClockUnset M
+      take-unset e = lent-take None e
 
-      pub take-outcome : (t : ℕ) → M.clock ≡ some t → take_step w o M ≡ take_outcome t o M
-      take-outcome t e = lent-take (some t) e
+      pub take-outcome : (t : ℕ) → M.clock ≡ Some t → take_step w o M ≡ take_outcome t o M
+      take-outcome t e = lent-take (Some t) e
 
-  module _ (l : eqb w.store_length store_length ≡ true) (t : ℕ) (set : M.clock ≡ some t) (f : File) where
+  module _ (l : eqb w.store_length store_length ≡ true) (t : ℕ) (set : M.clock ≡ Some t) (f : File) where
     room : (b : Bool) → leb (held_count (with_file t f M)) block_count ≡ b → take_step w (file f) M ≡ check b Cause.Full (accepted, with_file t f M) M
     room b k = take-outcome (file f) l t set ∙ ap (λ (x : Bool). check x Cause.Full (accepted, with_file t f M) M) k
 

@@ -1,5 +1,6 @@
 -- What a call does to the blocks, of any unit: a file that is taken gives free blocks and changes no other, a tick frees the blocks of months below
 -- floor and changes no other, the other calls leave the pool as it is.
+use Rattle.std.specs.Prelude.{Some, None, Option}
 use Prim.Native.Nat.{ℕ, zero, suc, ◌-◌, ◌≤◌, ◌<◌}
 use native.Mathlib.Nat.{eq-zero-or-pos}
 use native.Mathlib.Omega.{arith}
@@ -7,7 +8,6 @@ use mathlib.Core.Path.{◌≡◌, refl, sym, subst, ◌∙◌}
 use mathlib.Core.Logic.{◌⊎◌, inl, inr, ⊎_elim}
 use mathlib.Core.Bool.{Bool, true, false, cond, false≢true}
 use mathlib.Core.List.{List, [], ◌∷◌}
-use mathlib.Core.Option.{Option, none, some}
 use lib.Dec.{leb, ltb}
 use lib.ListN.{length}
 use borrow.Author.Tests.{ltb-true}
@@ -23,9 +23,6 @@ use Rattle.pool.specs.Blocks.{is_free, month_of, free_count, find_of, given, fre
 use Rattle.pool.specs.Held.{InBlock}
 use Rattle.pool.specs.declared.Pool.{Pool}
 use Rattle.pool.specs.declared.Taken.{Taken}
-use Rattle.pool.specs.declared.Found.{Found}
-use Rattle.pool.specs.declared.Found.TheVariants.{At, Nothing}
-use Rattle.pool.specs.declared.Place.TheVariants.{In}
 use Rattle.pool.proofs.BelowLaws.{bit-number}
 use Rattle.pool.proofs.Laws.{take-full, take_in, released_in}
 use Rattle.schedule.specs.Stored.{Stored, Piece, opened, open_by, open_month, lay_by, lay_piece, put_piece, piece_in, can_put, put_run}
@@ -37,8 +34,6 @@ use Rattle.unit.specs.Calls.{done_by, set_clock, with_command, second, seconds, 
 use Rattle.taking.specs.Taken.{outcome_rows, outcome_taken, taken, with_file}
 use Rattle.calls.specs.Step.{State, step, after}
 use Rattle.unit.specs.declared.Unit.{Unit}
-use Rattle.unit.specs.declared.Clock.{Clock}
-use Rattle.unit.specs.declared.Clock.TheVariants.{Unset, At}
 use Rattle.about_calls.proofs.Refusals.{rows_of}
 
 -- from pool p to pool q, where floor is f afterwards: a month keeps its block or is below floor, and a used block had its month or was free
@@ -82,15 +77,15 @@ open_adds m st long = go (find_of st.pool m)
     Open : Taken → Type 0
     Open t = Adds st.pool (opened t.pool t.place st.store).pool
 
-    filled : (c : ℕ) → c < block_count → is_free st.pool c ≡ true → Open (record { pool = given st.pool m c; place = In c })
+    filled : (c : ℕ) → c < block_count → is_free st.pool c ≡ true → Open (record { pool = given st.pool m c; place = Some c })
     filled c l free = record {
       kept = given-keeps st.pool m c long l free;
       from = λ x b i. ⊎_elim (λ w. inr (rw w.1 free)) (λ w. inl w.1) (given-cases st.pool m c long l x b i);
     }
 
-    go : (o : Found) → Adds st.pool (open_by o m st).pool
-    go (At c) = adds_same st.pool long
-    go Nothing =
+    go : (o : Option ℕ) → Adds st.pool (open_by o m st).pool
+    go (Some c) = adds_same st.pool long
+    go None =
         ⊎_elim (λ z. subst Open (sym (take-full st.pool m z)) (adds_same st.pool long))
         (λ z. let w = take_in st.pool m z in subst Open (sym w.3) (filled w.0 w.1 w.2))
         (eq-zero-or-pos (free_count st.pool))
@@ -99,9 +94,9 @@ lay_adds : (q : Piece) (st : Stored) → length st.pool.months ≡ block_count �
 unfolding lay_piece
 lay_adds q st long = go (find_of st.pool q.month)
   where
-    go : (o : Found) → Adds st.pool (lay_by o q st).pool
-    go (At c) = adds_same st.pool long
-    go Nothing = adds_same st.pool long
+    go : (o : Option ℕ) → Adds st.pool (lay_by o q st).pool
+    go (Some c) = adds_same st.pool long
+    go None = adds_same st.pool long
 
 piece_adds : (floor : ℕ) (q : Piece) (st : Stored) → length st.pool.months ≡ block_count → Adds st.pool (put_piece floor q st).pool
 unfolding put_piece
@@ -195,17 +190,17 @@ tick-drops store t u = go u.clock
     later c true = set-drops t u
     later c false = seconds-drop store (t - c) c u
 
-    go : (c : Clock) → Drops u (tick_from store t c u)
-    go Unset = set-drops t u
-    go (At c) = later c (leb t c)
+    go : (c : Option ℕ) → Drops u (tick_from store t c u)
+    go None = set-drops t u
+    go (Some c) = later c (leb t c)
 
 -- ---- every call
 
 -- by the rows: a refused call leaves the unit
 done_moves : (o : Option Cause) (u v : Unit) → Moves u.pool v.pool v.floor
     → Moves u.pool (done_by o v u).unit.pool (done_by o v u).unit.floor
-done_moves none u v h = h
-done_moves (some c) u v h = stays u.pool u.floor
+done_moves None u v h = h
+done_moves (Some c) u v h = stays u.pool u.floor
 
 taken-moves : (o : Outcome) (store : List ℕ) (u : Unit) → length u.pool.months ≡ block_count
     → Moves u.pool (taken o store u).pool (taken o store u).floor
@@ -239,8 +234,8 @@ step-moves free_blocks s long = stays s.unit.pool s.unit.floor
 -- ---- floor only rises
 
 done_rises : (o : Option Cause) (u v : Unit) → u.floor ≤ v.floor → u.floor ≤ (done_by o v u).unit.floor
-done_rises none u v l = l
-done_rises (some c) u v l = omega arith
+done_rises None u v l = l
+done_rises (Some c) u v l = omega arith
 
 taken-rises : (o : Outcome) (store : List ℕ) (u : Unit) → u.floor ≤ (taken o store u).floor
 unfolding with_file

@@ -1,12 +1,14 @@
 -- A call is refused with the lowest number whose row applies, and leaves unit and store as they were.
+use Rattle.laws.proofs.Options.{none-ne-some, some-ne-none}
+use Rattle.std.specs.Prelude.{Ok, Err, Option, None, Some}
 use Prim.Native.Nat.{ℕ}
 use mathlib.Core.Path.{◌≡◌, refl, sym, ap, ◌∙◌}
 use mathlib.Core.Bool.{Bool, true, false, cond, not, ◌&&◌, ◌||◌, false≢true, or-false}
 use mathlib.Core.List.{List, [], ◌∷◌}
 use mathlib.Core.Logic.Iff
 use mathlib.Core.Logic.{◌↔◌}
-use mathlib.Core.Option.{Option, none, some, none-ne-some, some-ne-none}
 use lib.Dec.{leb, ltb}
+use Rattle.rules.specs.Causes.{Answer}
 use Rattle.rules.specs.Name.{Name, parse_name}
 use Rattle.rules.specs.Body.{Body}
 use Rattle.rules.specs.File.{File, Outcome, refuse, file, take_file}
@@ -19,7 +21,6 @@ use Rattle.rules.specs.Machine.{Call, tick, clock_lost, file_taken, response_tak
 use Rattle.rules.specs.Table.{Row, row, first_of, applies_in, Lowest}
 use Rattle.rules.specs.Response.{parse_response, take_parsed, take_response}
 use Rattle.rules.specs.Rows.{taken_rows, formless}
-use Rattle.rules.specs.declared.Answer.{Answer}
 use Rattle.rules.specs.declared.Cause.{Cause}
 use Rattle.rules.specs.declared.Due.{Due}
 use Rattle.about_files.specs.ReadRefusals.{Parsed}
@@ -31,9 +32,10 @@ use Rattle.schedule.specs.Stored.{stored_rate}
 use Rattle.about_store.proofs.Laws.{taken-good}
 use Rattle.polling.specs.Requests.{requests_of}
 use Rattle.polling.specs.Due.{asks_fixed, due_for}
+use Rattle.ceiling.specs.Ceiling.{slot_ceiling}
 use Rattle.unit.specs.Values.{is_sound}
 use Rattle.unit.specs.Rows.{length_row, unit_row, sound_row, clock_row, tick_row, slot_row, status_row}
-use Rattle.unit.specs.Calls.{done_by, ticked, tick_of, lost, lost_of, with_failure, failure_of, due_by, due_of, clock_time, ceiling_by, ceiling_answer, ceiling_of as ceiling_at, command_by, command_of, free_by, free_of}
+use Rattle.unit.specs.Calls.{done_by, ticked, tick_of, lost, lost_of, with_failure, failure_of, due_by, due_of, clock_time, ceiling_by, ceiling_of as ceiling_at, command_by, command_of, free_by, free_of}
 use Rattle.taking.specs.Taken.{outcome_rows, outcome_taken, store_taken, taken, outcome_row, store_by, store_with, take_of, response_of}
 use Rattle.calls.specs.Step.{State, step_done, step}
 use Rattle.unit.specs.declared.Unit.{Unit}
@@ -81,8 +83,8 @@ module _ (u : Unit) (name body : List ℕ) where
 parsed-first : (u : Unit) → is_sound u ≡ true → (q : Option (List ℕ × List ℕ))
     → first_of (outcome_row (take_parsed u.plant.id q) u ∷ []) ≡ first_of (row Cause.Response (formless q) ∷ carried_by u q)
 unfolding first_of
-parsed-first u good none = refl
-parsed-first u good (some q) = outcome-first u q.0 q.1 good (take_file u.plant.id q.0 q.1) refl
+parsed-first u good None = refl
+parsed-first u good (Some q) = outcome-first u q.0 q.1 good (take_file u.plant.id q.0 q.1) refl
 
 response-first : (u : Unit) (boundary bytes : List ℕ) → is_sound u ≡ true
     → first_of (outcome_row (take_response u.plant.id boundary bytes) u ∷ []) ≡ first_of (of_file (response_taken boundary bytes) u)
@@ -98,7 +100,7 @@ lent_row s = not-both (is_sound s.unit) (sound_store (held_of s.unit.pool) s.sto
     not-both false y = refl
 
 -- what follows 4 counts only where the unit is sound
-where-sound : (x y : Bool) {o p : Option Cause} → (x ≡ true → o ≡ p) → cond (not (x && y)) (some Cause.Unsound) o ≡ cond (not (x && y)) (some Cause.Unsound) p
+where-sound : (x y : Bool) {o p : Option Cause} → (x ≡ true → o ≡ p) → cond (not (x && y)) (Some Cause.Unsound) o ≡ cond (not (x && y)) (Some Cause.Unsound) p
 where-sound true true e = e refl
 where-sound true false e = refl
 where-sound false y e = refl
@@ -106,15 +108,15 @@ where-sound false y e = refl
 -- 3, 4 and 5, then what follows them
 taken-same : (s : State) (o : Outcome) (after : Option Cause) → (is_sound s.unit ≡ true → first_of (outcome_row o s.unit ∷ []) ≡ after)
     → first_of (outcome_rows s.unit s.store o)
-    ≡ cond (length_row s.store).applies (some Cause.StoreLength)
-    (cond (not (is_sound s.unit) || not (sound_store (held_of s.unit.pool) s.store)) (some Cause.Unsound)
-    (cond (clock_row s.unit).applies (some Cause.ClockUnset) after))
+    ≡ cond (length_row s.store).applies (Some Cause.StoreLength)
+    (cond (not (is_sound s.unit) || not (sound_store (held_of s.unit.pool) s.store)) (Some Cause.Unsound)
+    (cond (clock_row s.unit).applies (Some Cause.ClockUnset) after))
 unfolding first_of
 taken-same s o after same =
     rw (lent_row s)
-    (ap (λ (x : Option Cause). cond (length_row s.store).applies (some Cause.StoreLength) x)
+    (ap (λ (x : Option Cause). cond (length_row s.store).applies (Some Cause.StoreLength) x)
     (where-sound (is_sound s.unit) (sound_store (held_of s.unit.pool) s.store) (λ good.
-    ap (λ (x : Option Cause). cond (clock_row s.unit).applies (some Cause.ClockUnset) x) (same good))))
+    ap (λ (x : Option Cause). cond (clock_row s.unit).applies (Some Cause.ClockUnset) x) (same good))))
 
 pub rows_same : (c : Call) (s : State) → first_of (rows_of c s) ≡ first_of (call_rows c s)
 unfolding first_of call_rows
@@ -141,8 +143,8 @@ rows_rise (file_taken name body) s = refl
 rows_rise (response_taken boundary bytes) s = carried-rise (parse_response boundary bytes)
   where
     carried-rise : (q : Option (List ℕ × List ℕ)) → rising_from 61 (row Cause.Response (formless q) ∷ carried_by s.unit q) ≡ true
-    carried-rise none = refl
-    carried-rise (some q) = refl
+    carried-rise None = refl
+    carried-rise (Some q) = refl
 rows_rise (failure kind status) s = refl
 rows_rise due s = refl
 rows_rise (ceiling_of slot) s = refl
@@ -151,12 +153,12 @@ rows_rise free_blocks s = refl
 
 -- ---- where a row applies
 
-taken-refuses : (o : Outcome) (s : State) (k : Cause) → first_of (outcome_rows s.unit s.store o) ≡ some k → taken_step o s ≡ (refused (number_of k), s)
+taken-refuses : (o : Outcome) (s : State) (k : Cause) → first_of (outcome_rows s.unit s.store o) ≡ Some k → taken_step o s ≡ (refused (number_of k), s)
 unfolding outcome_taken store_taken
 taken-refuses o s k e =
     ap (λ (x : Option Cause). step_done (done_by x (taken o s.store s.unit) s.unit) (store_by x (store_with o s.store s.unit) s.store)) e
 
-pub step-refuses : (c : Call) (s : State) (k : Cause) → first_of (rows_of c s) ≡ some k → step c s ≡ (refused (number_of k), s)
+pub step-refuses : (c : Call) (s : State) (k : Cause) → first_of (rows_of c s) ≡ Some k → step c s ≡ (refused (number_of k), s)
 unfolding step tick_of lost_of failure_of due_of ceiling_at command_of free_of
 step-refuses (tick t) s k e = ap (λ (o : Option Cause). step_done (done_by o (ticked s.store t s.unit) s.unit) s.store) e
 step-refuses clock_lost s k e = ap (λ (o : Option Cause). step_done (done_by o (lost s.unit) s.unit) s.store) e
@@ -169,31 +171,31 @@ step-refuses due s k e =
     ap (λ (o : Option Cause). (of_due (due_by o due), s)) e
 step-refuses (ceiling_of slot) s k e =
     ap (λ (o : Option Cause).
-    (of_ceiling (ceiling_by o (ceiling_answer (settings_of s.unit.plant) (stored_rate s.unit.pool s.store slot))), s)) e
+    (of_ceiling (ceiling_by o (slot_ceiling (settings_of s.unit.plant) (stored_rate s.unit.pool s.store slot))), s)) e
 step-refuses command s k e = ap (λ (o : Option Cause). (of_command (command_by o s.unit.command), s)) e
 step-refuses free_blocks s k e =
     ap (λ (o : Option Cause). (of_free_blocks (free_by o (free_count s.unit.pool)), s)) e
 
 -- ---- where no row applies
 
-due-answers : (s : Settings) (d t : ℕ) (q : Requests) → is_refused (of_due (due_for s d t q)) ≡ false
+due-answers : (s : Settings) (d t : ℕ) (q : Requests) → is_refused (of_due (Ok (due_for s d t q))) ≡ false
 unfolding due_for
 due-answers s d t q = go (leb q.update_at t) (asks_fixed s d t q)
   where
-    go : (x y : Bool) → is_refused (of_due (cond x Due.Update (cond y (Due.Fixed q.wanted_flag) Due.Nothing))) ≡ false
+    go : (x y : Bool) → is_refused (of_due (Ok (cond x (Some Due.Update) (cond y (Some (Due.Fixed q.wanted_flag)) None)))) ≡ false
     go true y = refl
     go false true = refl
     go false false = refl
 
-ceiling-answers : (o : Option ℕ) (s : Settings) → is_refused (of_ceiling (ceiling_answer s o)) ≡ false
-ceiling-answers none s = refl
-ceiling-answers (some r) s = refl
+ceiling-answers : (o : Option ℕ) (s : Settings) → is_refused (of_ceiling (Ok (slot_ceiling s o))) ≡ false
+ceiling-answers None s = refl
+ceiling-answers (Some r) s = refl
 
-taken-answers : (o : Outcome) (s : State) → first_of (outcome_rows s.unit s.store o) ≡ none → is_refused (taken_step o s).0 ≡ false
+taken-answers : (o : Outcome) (s : State) → first_of (outcome_rows s.unit s.store o) ≡ None → is_refused (taken_step o s).0 ≡ false
 unfolding outcome_taken
 taken-answers o s e = ap (λ (x : Option Cause). is_refused (step_done (done_by x (taken o s.store s.unit) s.unit) s.store).0) e
 
-step-answers : (c : Call) (s : State) → first_of (rows_of c s) ≡ none → is_refused (step c s).0 ≡ false
+step-answers : (c : Call) (s : State) → first_of (rows_of c s) ≡ None → is_refused (step c s).0 ≡ false
 unfolding step tick_of lost_of failure_of due_of ceiling_at command_of free_of
 step-answers (tick t) s e = ap (λ (o : Option Cause). is_refused (step_done (done_by o (ticked s.store t s.unit) s.unit) s.store).0) e
 step-answers clock_lost s e = ap (λ (o : Option Cause). is_refused (step_done (done_by o (lost s.unit) s.unit) s.store).0) e
@@ -207,7 +209,7 @@ step-answers due s e =
     ap (λ (o : Option Cause). is_refused (of_due (due_by o due))) e
     ∙ due-answers _ _ _ _
 step-answers (ceiling_of slot) s e =
-    ap (λ (o : Option Cause). is_refused (of_ceiling (ceiling_by o (ceiling_answer (settings_of s.unit.plant) (stored_rate s.unit.pool s.store slot))))) e
+    ap (λ (o : Option Cause). is_refused (of_ceiling (ceiling_by o (slot_ceiling (settings_of s.unit.plant) (stored_rate s.unit.pool s.store slot))))) e
     ∙ ceiling-answers (stored_rate s.unit.pool s.store slot) (settings_of s.unit.plant)
 step-answers command s e = ap (λ (o : Option Cause). is_refused (of_command (command_by o s.unit.command))) e
 step-answers free_blocks s e = ap (λ (o : Option Cause). is_refused (of_free_blocks (free_by o (free_count s.unit.pool)))) e
@@ -216,23 +218,23 @@ step-answers free_blocks s e = ap (λ (o : Option Cause). is_refused (of_free_bl
 
 module _ (c : Call) (s : State) where
   -- by the first row that applies
-  refused-first : (k : Cause) (o : Option Cause) → first_of (rows_of c s) ≡ o → ((step c s).0 ≡ refused (number_of k)) ↔ (o ≡ some k)
-  refused-first k none e = (λ x. absurd (false≢true (sym (step-answers c s e) ∙ ap is_refused x)), λ x. absurd (none-ne-some k x))
-  refused-first k (some d) e = (
+  refused-first : (k : Cause) (o : Option Cause) → first_of (rows_of c s) ≡ o → ((step c s).0 ≡ refused (number_of k)) ↔ (o ≡ Some k)
+  refused-first k None e = (λ x. absurd (false≢true (sym (step-answers c s e) ∙ ap is_refused x)), λ x. absurd (none-ne-some k x))
+  refused-first k (Some d) e = (
     λ x.
         let given : refused (number_of d) ≡ refused (number_of k) = sym (ap (λ r. r.0) (step-refuses c s d e)) ∙ x in
         let number : number_of d ≡ number_of k = cc in
-        ap some (same-cause d k number),
+        ap Some (same-cause d k number),
     λ x. ap (λ r. r.0) (step-refuses c s k (e ∙ x)),
   )
 
   left-first : (n : ℕ) (o : Option Cause) → first_of (rows_of c s) ≡ o → (step c s).0 ≡ refused n → (step c s).1 ≡ s
-  left-first n none e x = absurd (false≢true (sym (step-answers c s e) ∙ ap is_refused x))
-  left-first n (some d) e x = ap (λ r. r.1) (step-refuses c s d e)
+  left-first n None e x = absurd (false≢true (sym (step-answers c s e) ∙ ap is_refused x))
+  left-first n (Some d) e x = ap (λ r. r.1) (step-refuses c s d e)
 
-  answered-first : (o : Option Cause) → first_of (rows_of c s) ≡ o → (is_refused (step c s).0 ≡ false) ↔ (o ≡ none)
-  answered-first none e = (λ x. refl, λ x. step-answers c s e)
-  answered-first (some d) e =
+  answered-first : (o : Option Cause) → first_of (rows_of c s) ≡ o → (is_refused (step c s).0 ≡ false) ↔ (o ≡ None)
+  answered-first None e = (λ x. refl, λ x. step-answers c s e)
+  answered-first (Some d) e =
       (λ x. absurd (false≢true (sym x ∙ ap (λ r. is_refused r.0) (step-refuses c s d e))), λ x. absurd (some-ne-none d x))
 
 pub refuses-lowest : RefusesLowest
@@ -254,11 +256,11 @@ module _ (c : Call) (s : State) (answer : Answer) (is : answer ≡ answer_of (fi
   by_rows : answer ≡ answer_of (first_of (call_rows c s))
   by_rows = is ∙ ap answer_of (rows_same c s)
 
-  refuses_by : (k : Cause) → (answer ≡ Answer.Refused k) ↔ Lowest (call_rows c s) k
-  refuses_by k = rw by_rows (answer-refuses Answer.Refused Answer.Accepted cause_in (λ x. refl) refl (call_rows c s) (rows_rise c s) k)
+  refuses_by : (k : Cause) → (answer ≡ Err k) ↔ Lowest (call_rows c s) k
+  refuses_by k = rw by_rows (answer-refuses Err (Ok tt) cause_in (λ x. refl) refl (call_rows c s) (rows_rise c s) k)
 
-  accepts_by : (answer ≡ Answer.Accepted) ↔ ((k : Cause) → applies_in (call_rows c s) k ≡ false)
-  accepts_by = rw by_rows (answer-given Answer.Refused Answer.Accepted cause_in (λ x. refl) refl (call_rows c s))
+  accepts_by : (answer ≡ Ok tt) ↔ ((k : Cause) → applies_in (call_rows c s) k ≡ false)
+  accepts_by = rw by_rows (answer-given Err (Ok tt) cause_in (λ x. refl) refl (call_rows c s))
 
 pub file-refuses : FileRefuses
 file-refuses u store name body k =

@@ -1,9 +1,9 @@
 -- A response taken is its name and file taken.
+use Rattle.std.specs.Prelude.{Some, Err, Option, None}
 use Prim.Native.Nat.{ℕ}
 use mathlib.Core.Path.{◌≡◌, refl, sym, ap, ◌∙◌}
 use mathlib.Core.Bool.{Bool, true, false, not, ◌&&◌, ◌||◌, false≢true, and-false}
 use mathlib.Core.List.{List, [], ◌∷◌}
-use mathlib.Core.Option.{Option, none, some}
 use lib.ListN.{length}
 use borrow.Author.Tests.{eq-eqb}
 use Rattle.rules.specs.File.{Outcome, refuse, take_file}
@@ -14,7 +14,6 @@ use Rattle.rules.specs.Rows.{taken_rows}
 use Rattle.rules.specs.Store.{store_length, sound_store}
 use Rattle.rules.specs.Machine.{take_step, file_taken, step as machine_step}
 use Rattle.rules.specs.Table.{Row, first_of, is_cause, applies_in}
-use Rattle.rules.specs.declared.Answer.{Answer}
 use Rattle.rules.specs.declared.Cause.{Cause}
 use Rattle.about_responses.specs.Exact.{Carried}
 use Rattle.about_responses.proofs.Exact.{response-exactly, broken-exactly}
@@ -23,8 +22,7 @@ use Rattle.pool.specs.Held.{held_of}
 use Rattle.unit.specs.Values.{is_sound}
 use Rattle.unit.specs.Rows.{is_unset}
 use Rattle.unit.specs.declared.Unit.{Unit}
-use Rattle.unit.specs.declared.Done.{Done}
-use Rattle.unit.specs.declared.Clock.{Clock}
+use Rattle.unit.specs.Changed.{Done}
 use Rattle.taking.specs.Taken.{outcome_rows, outcome_taken, store_taken, response_of}
 use Rattle.calls.specs.Step.{State}
 use Rattle.about_calls.specs.Refusals.{call_rows}
@@ -80,12 +78,12 @@ no_row name body s = none-applies Cause.Response (call_rows (file_taken name bod
     named = unfold none_is call_rows taken_rows in refl
 
 module _ (u : Unit) (store : List ℕ) (t : ℕ) (boundary bytes : List ℕ) (good : is_sound u ≡ true) (long : length store ≡ store_length)
-    (lent : sound_store (held_of u.pool) store ≡ true) (clock : u.clock ≡ Clock.At t) where
-  broken-cause : first_of (outcome_rows u store (refuse Cause.Response)) ≡ some Cause.Response
+    (lent : sound_store (held_of u.pool) store ≡ true) (clock : u.clock ≡ Some t) where
+  broken-cause : first_of (outcome_rows u store (refuse Cause.Response)) ≡ Some Cause.Response
   unfolding first_of
   broken-cause = rw (eq-eqb (length store) store_length long, good, lent, ap is_unset clock) refl
 
-  broken-is : parse_response boundary bytes ≡ none → (response_of u store boundary bytes).answer ≡ Answer.Refused Cause.Response
+  broken-is : parse_response boundary bytes ≡ None → (response_of u store boundary bytes).answer ≡ Err Cause.Response
   unfolding take_response
   broken-is e =
       ap (λ (q : Option (List ℕ × List ℕ)). (outcome_taken u store (take_parsed u.plant.id q)).answer) e
@@ -93,9 +91,9 @@ module _ (u : Unit) (store : List ℕ) (t : ℕ) (boundary bytes : List ℕ) (go
       ∙ ap answer_of broken-cause
 
   other : (q : Option (List ℕ × List ℕ)) → parse_response boundary bytes ≡ q
-      → (response_of u store boundary bytes).answer ≡ Answer.Refused Cause.Response → parse_response boundary bytes ≡ none
-  other none e x = e
-  other (some q) e x =
+      → (response_of u store boundary bytes).answer ≡ Err Cause.Response → parse_response boundary bytes ≡ None
+  other None e x = e
+  other (Some q) e x =
       let c = (response-exactly boundary bytes q.0 q.1).0 e in
       let same = ap (λ (d : Done). d.answer) (response-as-file u store boundary bytes q.0 q.1 c).0 in
       let low = (file-refuses u store q.0 q.1 Cause.Response).0 (sym same ∙ x) in

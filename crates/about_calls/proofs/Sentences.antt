@@ -1,15 +1,14 @@
 -- The latest rate, and what stays untouched.
+use Rattle.std.specs.Prelude.{Ok, Option, None, Some}
 use Prim.Native.Nat.{ℕ}
 use mathlib.Core.Path.{◌≡◌, refl, sym, ◌∙◌, subst}
 use mathlib.Core.Bool.{false≢true}
 use mathlib.Core.List.{List}
-use mathlib.Core.Option.{Option, none, some}
 use lib.ListN.{length}
 use Rattle.rules.specs.File.{File, Outcome, file, take_file, records_in}
 use Rattle.rules.specs.Machine.{tick, clock_lost, file_taken, response_taken, failure, due, ceiling_of, command, free_blocks, any_record, fresh_machine, after as machine_after}
 use Rattle.rules.specs.Store.{block_count}
 use Rattle.rules.specs.Table.{first_of}
-use Rattle.rules.specs.declared.Answer.{Answer}
 use Rattle.rules.specs.declared.Cause.{Cause}
 use Rattle.schedule.specs.Stored.{Stored}
 use Rattle.about_store.specs.Run.{put_records}
@@ -32,12 +31,12 @@ latest-rate p valid store long cs s l =
     rate-agrees (stored (after cs (fresh p store))) M (agree_of (after cs (fresh p store)) M (r.size ∙ long) r.kept) s l
 
 -- no row applies to a call that is accepted
-accepted-row : (o : Option Cause) (new old : Unit) → (done_by o new old).answer ≡ Answer.Accepted → o ≡ none
-accepted-row none new old e = refl
-accepted-row (some c) new old e = cc
+accepted-row : (o : Option Cause) (new old : Unit) → (done_by o new old).answer ≡ Ok tt → o ≡ None
+accepted-row None new old e = refl
+accepted-row (Some c) new old e = cc
 
 pub outcome_untouched : (u : Unit) (store : List ℕ) (o : Outcome) (f : File) → length u.pool.months ≡ block_count → o ≡ file f
-    → (outcome_taken u store o).answer ≡ Answer.Accepted
+    → (outcome_taken u store o).answer ≡ Ok tt
     → Untouched u.floor (λ m. any_record m (records_in f.body))
     (record { pool = u.pool; store = store })
     (record { pool = (outcome_taken u store o).unit.pool; store = store_taken u store o })

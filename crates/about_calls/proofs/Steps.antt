@@ -1,8 +1,9 @@
 -- Each call: the unit's reply is the machine's, and the unit goes on following.
+use Rattle.rules.specs.declared.Cause.{Cause}
+use Rattle.std.specs.Prelude.{Some, None, Option, Result, Ok}
 use Prim.Native.Nat.{ℕ, ◌-◌, ◌<◌}
 use mathlib.Core.Path.{◌≡◌, refl, sym, ap, ap₂, ◌∙◌, subst₂}
 use mathlib.Core.Bool.{Bool, true, false}
-use mathlib.Core.Option.{Option, none, some}
 use native.Mathlib.Omega.{arith}
 use lib.Dec.{ltb, eqb}
 use lib.ListN.{length}
@@ -24,14 +25,13 @@ use Rattle.polling.specs.Requests.{requests_of, requests_from}
 use Rattle.polling.proofs.DueLaws.{due-as-machine}
 use Rattle.about_store.specs.Agrees.{Agrees}
 use Rattle.about_store.proofs.Laws.{same-agrees, store-sound, rate-agrees, free-agrees}
-use Rattle.unit.specs.Values.{clock_of, is_sound, fresh_pool}
+use Rattle.ceiling.specs.Ceiling.{slot_ceiling}
+use Rattle.unit.specs.Values.{is_sound, fresh_pool}
 use Rattle.unit.specs.Rows.{is_unset}
-use Rattle.unit.specs.Calls.{lost, ceiling_answer}
+use Rattle.unit.specs.Calls.{lost}
 use Rattle.calls.specs.Step.{State, Step, step_done, step}
 use Rattle.unit.specs.declared.Unit.{Unit}
-use Rattle.unit.specs.declared.Done.{Done}
-use Rattle.unit.specs.declared.Clock.{Clock}
-use Rattle.unit.specs.declared.Clock.TheVariants.{Unset, At}
+use Rattle.unit.specs.Changed.{Done}
 use Rattle.unit.proofs.CallLaws.{lost-done, failure-unset, failure-status, failure-done, due-unset, due-done, command-done, free-done}
 use Rattle.about_calls.proofs.Options.{test-same, test_other}
 use Rattle.about_calls.proofs.MachineLaws as machine
@@ -50,7 +50,7 @@ sim_by p n x x' y y' e f k = subst₂ (λ (a : Step) (b : MachineStep). Sim p n 
 
 -- pool and store stay, and so do the machine's floor and files
 pub kept_same : (s t : State) (M N : Machine) → t.unit.pool ≡ s.unit.pool → t.store ≡ s.store → N.floor ≡ M.floor → N.files ≡ M.files
-    → (M.clock ≡ none → N.clock ≡ none) → Kept s M → Kept t N
+    → (M.clock ≡ None → N.clock ≡ None) → Kept s M → Kept t N
 kept_same s t M N q r f g c (agrees e a) = agrees (ap length r ∙ e) (rw (q, r) (same-agrees (stored s) M N f g a))
 kept_same s t M N q r f g c (apart e d h k l) = apart (λ z. e (sym (ap length r) ∙ z)) (q ∙ d) (g ∙ h) (f ∙ k) (c l)
 
@@ -70,13 +70,13 @@ module _ (p : Plant) (valid : valid_plant p ≡ true) (n : ℕ) where
     good = follows-sound p valid n s M h
 
     -- a clock that is unset, or set, is so in both
-    pub clock-none : u.clock ≡ Unset → M.clock ≡ none
-    clock-none e = sym h.clock ∙ ap clock_of e
+    pub clock-none : u.clock ≡ None → M.clock ≡ None
+    clock-none e = sym h.clock ∙ e
 
-    pub clock-some : (t : ℕ) → u.clock ≡ At t → M.clock ≡ some t
-    clock-some t e = sym h.clock ∙ ap clock_of e
+    pub clock-some : (t : ℕ) → u.clock ≡ Some t → M.clock ≡ Some t
+    clock-some t e = sym h.clock ∙ e
 
-    pub time-below : (t : ℕ) → u.clock ≡ At t → t < end_of_time
+    pub time-below : (t : ℕ) → u.clock ≡ Some t → t < end_of_time
     time-below t e = ltb-true t end_of_time (ap sound_clock (sym (clock-some t e)) ∙ h.time)
 
     digit-same : last_digit p.id ≡ last_digit u.plant.id
@@ -123,10 +123,10 @@ module _ (p : Plant) (valid : valid_plant p ≡ true) (n : ℕ) where
     unfolding step
     due-step = go u.clock refl
       where
-        go : (c : Clock) → u.clock ≡ c → Sim p n (step due s) (machine_step w due M)
-        go Unset e =
-            sim_by p n _ _ _ _ (ap (λ (a : Due). (of_due a, s)) (due-unset u good e)) (machine.due-unset w M (clock-none e)) (refl, h)
-        go (At t) e =
+        go : (c : Option ℕ) → u.clock ≡ c → Sim p n (step due s) (machine_step w due M)
+        go None e =
+            sim_by p n _ _ _ _ (ap (λ (a : Result (Option Due) Cause). (of_due a, s)) (due-unset u good e)) (machine.due-unset w M (clock-none e)) (refl, h)
+        go (Some t) e =
             let d = last_digit p.id in
             let same = ap₂ (λ (r : Plant) q. Rattle.rules.specs.Machine.due_of (settings_of r) d t q) h.plant h.requests in
             sim_by p n _ _ _ _
@@ -142,12 +142,12 @@ module _ (p : Plant) (valid : valid_plant p ≡ true) (n : ℕ) where
         plant = u.plant;
         pool = u.pool;
         requests = requests_from (failed (settings_of u.plant) (last_digit p.id) kind t status (requests_of u.requests));
-        clock = At t;
+        clock = u.clock;
         floor = u.floor;
         command = u.command;
       }
 
-      reported_follows : (t : ℕ) → u.clock ≡ At t → let asked = failed (settings_of p) (last_digit p.id) kind t status M.requests in
+      reported_follows : (t : ℕ) → u.clock ≡ Some t → let asked = failed (settings_of p) (last_digit p.id) kind t status M.requests in
           Follows p n (record { unit = reported t; store = s.store }) (with_requests asked M)
       unfolding with_requests
       reported_follows t e =
@@ -156,7 +156,7 @@ module _ (p : Plant) (valid : valid_plant p ≡ true) (n : ℕ) where
           record {
             plant = h.plant;
             size = h.size;
-            clock = sym (clock-some t e);
+            clock = h.clock;
             floor = h.floor;
             requests = ap₂ (λ (r : Plant) q. failed (settings_of r) d kind t status q) h.plant h.requests;
             command = h.command;
@@ -170,14 +170,14 @@ module _ (p : Plant) (valid : valid_plant p ≡ true) (n : ℕ) where
       unfolding step
       failure-step = go u.clock refl (is_status status) refl
         where
-          go : (c : Clock) → u.clock ≡ c → (b : Bool) → is_status status ≡ b → Sim p n (step (failure kind status) s) (machine_step w (failure kind status) M)
-          go Unset e b f =
+          go : (c : Option ℕ) → u.clock ≡ c → (b : Bool) → is_status status ≡ b → Sim p n (step (failure kind status) s) (machine_step w (failure kind status) M)
+          go None e b f =
               sim_by p n _ _ _ _ (ap (λ (d : Done). step_done d s.store) (failure-unset u good kind status e))
               (machine.failure-unset w M kind status (clock-none e)) (refl, h)
-          go (At t) e false f =
+          go (Some t) e false f =
               sim_by p n _ _ _ _ (ap (λ (d : Done). step_done d s.store) (failure-status u good t e kind status f))
               (machine.failure-status w M kind status t (clock-some t e) f) (refl, h)
-          go (At t) e true f =
+          go (Some t) e true f =
               sim_by p n _ _ _ _
               (ap (λ (d : Done). step_done d s.store) (failure-done u good t e kind status f (last_digit p.id) digit-same (reported t).requests refl))
               (machine.failure-done w M kind status t (clock-some t e) f)
@@ -217,17 +217,17 @@ module _ (p : Plant) (valid : valid_plant p ≡ true) (n : ℕ) where
 
     -- ---- ceiling
 
-    ceiling-same : (a b : Option ℕ) (q : Plant) → q ≡ p → a ≡ b → of_ceiling (ceiling_answer (settings_of q) a) ≡ ceiling_reply (settings_of p) b
+    ceiling-same : (a b : Option ℕ) (q : Plant) → q ≡ p → a ≡ b → of_ceiling (Ok (slot_ceiling (settings_of q) a)) ≡ ceiling_reply (settings_of p) b
     ceiling-same a b q e f = rw (e, f) (go b)
       where
-        go : (o : Option ℕ) → of_ceiling (ceiling_answer (settings_of p) o) ≡ ceiling_reply (settings_of p) o
-        go none = refl
-        go (some r) = refl
+        go : (o : Option ℕ) → of_ceiling (Ok (slot_ceiling (settings_of p) o)) ≡ ceiling_reply (settings_of p) o
+        go None = refl
+        go (Some r) = refl
 
     pub ceiling-step : (slot : ℕ) → Sim p n (step (ceiling_of slot) s) (machine_step w (ceiling_of slot) M)
     ceiling-step slot = go (eqb n store_length) refl
       where
-        in-range : (l : n ≡ store_length) (t : ℕ) → u.clock ≡ At t → (b : Bool) → ltb slot slot_count ≡ b
+        in-range : (l : n ≡ store_length) (t : ℕ) → u.clock ≡ Some t → (b : Bool) → ltb slot slot_count ≡ b
             → Sim p n (step (ceiling_of slot) s) (machine_step w (ceiling_of slot) M)
         in-range l t c false e =
             sim_by p n _ _ _ _ (unit.ceiling-range s (full l) good (bytes l) (ap is_unset c) slot e)
@@ -237,11 +237,11 @@ module _ (p : Plant) (valid : valid_plant p ≡ true) (n : ℕ) where
             (machine.ceiling-done w M slot (eq-eqb n store_length l) t (clock-some t c) e)
             (ceiling-same _ _ u.plant h.plant (rate-agrees (stored s) M (agreed l) slot (ltb-true slot slot_count e)), h)
 
-        by-clock : (l : n ≡ store_length) (c : Clock) → u.clock ≡ c → Sim p n (step (ceiling_of slot) s) (machine_step w (ceiling_of slot) M)
-        by-clock l Unset c =
+        by-clock : (l : n ≡ store_length) (c : Option ℕ) → u.clock ≡ c → Sim p n (step (ceiling_of slot) s) (machine_step w (ceiling_of slot) M)
+        by-clock l None c =
             sim_by p n _ _ _ _ (unit.ceiling-unset s (full l) good (bytes l) (ap is_unset c) slot)
             (machine.ceiling-unset w M slot (eq-eqb n store_length l) (clock-none c)) (refl, h)
-        by-clock l (At t) c = in-range l t c (ltb slot slot_count) refl
+        by-clock l (Some t) c = in-range l t c (ltb slot slot_count) refl
 
         go : (b : Bool) → eqb n store_length ≡ b → Sim p n (step (ceiling_of slot) s) (machine_step w (ceiling_of slot) M)
         go true e = by-clock (test-same n store_length e) u.clock refl

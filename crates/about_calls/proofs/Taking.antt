@@ -1,4 +1,5 @@
 -- A file taken, by itself or in a response: the flags and times that it brings are sound, the unit's reply is the machine's, and the unit goes on following.
+use Rattle.std.specs.Prelude.{Option, Some, None}
 use Prim.Native.Nat.{ℕ, ◌≤◌, ◌<◌}
 use mathlib.Core.Path.{◌≡◌, refl, sym, ap, ap₂, ◌∙◌, subst}
 use mathlib.Core.Bool.{Bool, true, false, not}
@@ -35,8 +36,6 @@ use Rattle.unit.specs.Calls.{clock_time}
 use Rattle.taking.specs.Taken.{with_file, store_with, full_row}
 use Rattle.calls.specs.Step.{State, step}
 use Rattle.unit.specs.declared.Unit.{Unit}
-use Rattle.unit.specs.declared.Clock.{Clock}
-use Rattle.unit.specs.declared.Clock.TheVariants.{Unset, At}
 use Rattle.about_calls.proofs.Options.{test-same, test_other}
 use Rattle.about_calls.proofs.MachineLaws as machine
 use Rattle.about_calls.proofs.UnitLaws as unit
@@ -97,7 +96,7 @@ module _ (p : Plant) (valid : valid_plant p ≡ true) (n : ℕ) (s : State) (M :
   abbrev after : File → State
   after f = record { unit = with_file f s.store u; store = store_with (file f) s.store u }
 
-  module _ (l : n ≡ store_length) (t : ℕ) (set : u.clock ≡ At t) (f : File) (by : TakenBy p.id f) where
+  module _ (l : n ≡ store_length) (t : ℕ) (set : u.clock ≡ Some t) (f : File) (by : TakenBy p.id f) where
     -- 14 applies on both sides or on neither
     full-same : (full_row f u).applies ≡ not (leb (held_count (machine_with t f M)) block_count)
     unfolding full_row
@@ -139,7 +138,7 @@ module _ (p : Plant) (valid : valid_plant p ≡ true) (n : ℕ) (s : State) (M :
   taken_step_lem : (o : Outcome) → Carries p.id o → Sim p n (unit.taken_step o s) (take_step (w p valid n) o M)
   taken_step_lem o from = go (eqb n store_length) refl
     where
-      by-room : (l : n ≡ store_length) (t : ℕ) → u.clock ≡ At t → (f : File) → TakenBy p.id f
+      by-room : (l : n ≡ store_length) (t : ℕ) → u.clock ≡ Some t → (f : File) → TakenBy p.id f
           → (b : Bool) → leb (held_count (machine_with t f M)) block_count ≡ b → Sim p n (unit.taken_step (file f) s) (take_step (w p valid n) (file f) M)
       by-room l t c f by false g =
           sim_by p n _ _ _ _
@@ -153,7 +152,7 @@ module _ (p : Plant) (valid : valid_plant p ≡ true) (n : ℕ) (s : State) (M :
           (machine.take_done (w p valid n) M (eq-eqb n store_length l) t (clock-some p valid n s M h t c) f g)
           (refl, taken-follows l t c f by (leb-true (held_count (machine_with t f M)) block_count g))
 
-      by_outcome : (l : n ≡ store_length) (t : ℕ) → u.clock ≡ At t → (x : Outcome) → Carries p.id x
+      by_outcome : (l : n ≡ store_length) (t : ℕ) → u.clock ≡ Some t → (x : Outcome) → Carries p.id x
           → Sim p n (unit.taken_step x s) (take_step (w p valid n) x M)
       by_outcome l t c (refuse x) k =
           sim_by p n _ _ _ _
@@ -162,11 +161,11 @@ module _ (p : Plant) (valid : valid_plant p ≡ true) (n : ℕ) (s : State) (M :
           (refl, h)
       by_outcome l t c (file f) k = by-room l t c f (k f refl) (leb (held_count (machine_with t f M)) block_count) refl
 
-      by-clock : (l : n ≡ store_length) (c : Clock) → u.clock ≡ c → Sim p n (unit.taken_step o s) (take_step (w p valid n) o M)
-      by-clock l Unset c =
+      by-clock : (l : n ≡ store_length) (c : Option ℕ) → u.clock ≡ c → Sim p n (unit.taken_step o s) (take_step (w p valid n) o M)
+      by-clock l None c =
           sim_by p n _ _ _ _ (unit.take-unset s (full p valid n s M h l) (good p valid n s M h) (bytes p valid n s M h l) (ap is_unset c) o)
           (machine.take-unset (w p valid n) M o (eq-eqb n store_length l) (clock-none p valid n s M h c)) (refl, h)
-      by-clock l (At t) c = by_outcome l t c o from
+      by-clock l (Some t) c = by_outcome l t c o from
 
       go : (b : Bool) → eqb n store_length ≡ b → Sim p n (unit.taken_step o s) (take_step (w p valid n) o M)
       go true e = by-clock (test-same n store_length e) u.clock refl

@@ -1,8 +1,8 @@
 -- Seconds: the unit's second and the machine's, side by side.
+use Rattle.std.specs.Prelude.{Some, None, Option}
 use Prim.Native.Nat.{ℕ, zero, suc, ◌+◌, ◌-◌, ◌≤◌, ◌<◌, min, max}
 use mathlib.Core.Path.{◌≡◌, refl, ap, ap₂, ◌∙◌}
 use mathlib.Core.Bool.{Bool, true, false, cond}
-use mathlib.Core.Option.{Option, none, some}
 use native.Mathlib.Omega.{arith}
 use lib.Dec.{leb}
 use lib.ListN.{length}
@@ -19,11 +19,8 @@ use Rattle.plant.proofs.Laws.{parts-most}
 use Rattle.schedule.specs.Stored.{stored_rate}
 use Rattle.about_store.specs.Agrees.{Agrees}
 use Rattle.about_store.proofs.Laws.{release_agrees, same-agrees, rate-agrees}
-use Rattle.unit.specs.Values.{clock_of}
 use Rattle.unit.specs.Calls.{set_clock, with_command, second, seconds, tick_from, ticked}
 use Rattle.calls.specs.Step.{State}
-use Rattle.unit.specs.declared.Clock.{Clock}
-use Rattle.unit.specs.declared.Clock.TheVariants.{Unset, At}
 use Rattle.about_calls.proofs.Options.{none-some, some-none, some_same}
 use Rattle.about_calls.proofs.Follows.{stored, Kept, agrees, apart, Follows}
 
@@ -79,12 +76,12 @@ module _ (p : Plant) (n : ℕ) (full : n ≡ store_length) where
       }
 
   -- the target of a rate of the machine is a command that the unit may have
-  goal-most : (M : Machine) → ((s r : ℕ) → rate_of M s ≡ some r → r ≤ highest_rate) → (s : ℕ) → target (settings_of p) (rate_of M s) ≤ full_command (settings_of p)
+  goal-most : (M : Machine) → ((s r : ℕ) → rate_of M s ≡ Some r → r ≤ highest_rate) → (s : ℕ) → target (settings_of p) (rate_of M s) ≤ full_command (settings_of p)
   goal-most M low s = go (rate_of M s) refl
     where
       go : (o : Option ℕ) → rate_of M s ≡ o → target (settings_of p) o ≤ full_command (settings_of p)
-      go none e = parts-most (settings_of p) 0 (omega arith)
-      go (some r) e = parts-most (settings_of p) r (low s r e)
+      go None e = parts-most (settings_of p) 0 (omega arith)
+      go (Some r) e = parts-most (settings_of p) r (low s r e)
 
   -- a second passes
   second-follows : (s : State) (M : Machine) (t : ℕ) → t < end_of_time → Follows p n s M → Follows p n (with_second t s) (machine_second (settings_of p) t M)
@@ -134,9 +131,9 @@ module _ (p : Plant) (n : ℕ) (full : n ≡ store_length) where
       later c true e = set-follows s M t l h
       later c false e = seconds-follow (t - c) c s M (omega (arith, leb-false t c e)) h
 
-      go : (c : Clock) (o : Option ℕ) → clock_of c ≡ o
+      go : (c : Option ℕ) (o : Option ℕ) → c ≡ o
           → Follows p n (record { unit = tick_from s.store t c s.unit; store = s.store }) (machine_from (settings_of p) t o M)
-      go Unset none e = set-follows s M t l h
-      go Unset (some d) e = absurd (none-some d e)
-      go (At c) none e = absurd (some-none c e)
-      go (At c) (some d) e = rw (← some_same c d e) (later c (leb t c) refl)
+      go None None e = set-follows s M t l h
+      go None (Some d) e = absurd (none-some d e)
+      go (Some c) None e = absurd (some-none c e)
+      go (Some c) (Some d) e = rw (← some_same c d e) (later c (leb t c) refl)

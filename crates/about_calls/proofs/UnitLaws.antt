@@ -1,4 +1,5 @@
 -- What the unit's calls with a store answer, on a unit that is sound with its store: one law for each row that can apply, and one where none does.
+use Rattle.std.specs.Prelude.{Ok}
 use Prim.Native.Nat.{ℕ}
 use mathlib.Core.Path.{◌≡◌}
 use mathlib.Core.Bool.{true, false}
@@ -14,9 +15,10 @@ use Rattle.rules.specs.declared.Cause.{Cause}
 use Rattle.plant.specs.Plant.{settings_of}
 use Rattle.pool.specs.Held.{held_of}
 use Rattle.schedule.specs.Stored.{stored_rate}
+use Rattle.ceiling.specs.Ceiling.{slot_ceiling}
 use Rattle.unit.specs.Values.{is_sound}
 use Rattle.unit.specs.Rows.{is_unset}
-use Rattle.unit.specs.Calls.{ticked, tick_of, ceiling_of as ceiling_at, ceiling_answer}
+use Rattle.unit.specs.Calls.{ticked, tick_of, ceiling_of as ceiling_at}
 use Rattle.taking.specs.Taken.{outcome_taken, store_taken, full_row, store_with, with_file}
 use Rattle.calls.specs.Step.{State, Step, step_done, step}
 
@@ -73,7 +75,7 @@ module _ (s : State) where
       ceiling-range slot e = rw (full, good, bytes, set, e)
 
       pub ceiling-done : (slot : ℕ) → ltb slot slot_count ≡ true
-          → step (ceiling_of slot) s ≡ (of_ceiling (ceiling_answer (settings_of s.unit.plant) (stored_rate s.unit.pool s.store slot)), s)
+          → step (ceiling_of slot) s ≡ (of_ceiling (Ok (slot_ceiling (settings_of s.unit.plant) (stored_rate s.unit.pool s.store slot))), s)
       unfolding step ceiling_at first_of
       ceiling-done slot e = rw (full, good, bytes, set, e)
 

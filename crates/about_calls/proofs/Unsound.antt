@@ -1,8 +1,8 @@
 -- A unit that is not sound: every call is refused, with unit and store as they were.
+use Rattle.std.specs.Prelude.{Some}
 use mathlib.Core.Path.{◌≡◌, refl, ap, ◌∙◌}
 use mathlib.Core.Bool.{Bool, true, false, cond, not, ◌&&◌}
 use mathlib.Core.List.{List, [], ◌∷◌, map}
-use mathlib.Core.Option.{some}
 use lib.Dec.{eqb}
 use lib.ListN.{length}
 use Rattle.rules.specs.Store.{store_length}
@@ -17,11 +17,11 @@ use Rattle.about_calls.specs.Refusals.{call_rows}
 use Rattle.about_calls.proofs.Refusals.{rows_same, step-refuses}
 
 module _ (s : State) (bad : is_sound s.unit ≡ false) where
-  unsound-first : (c : Call) → first_of (call_rows c s) ≡ some (cond (lent c && not (eqb (length s.store) store_length)) Cause.StoreLength Cause.Unsound)
+  unsound-first : (c : Call) → first_of (call_rows c s) ≡ Some (cond (lent c && not (eqb (length s.store) store_length)) Cause.StoreLength Cause.Unsound)
   unfolding first_of call_rows
   unsound-first c = rw bad (go (lent c && not (eqb (length s.store) store_length)))
     where
-      go : (t : Bool) → cond t (some Cause.StoreLength) (some Cause.Unsound) ≡ some (cond t Cause.StoreLength Cause.Unsound)
+      go : (t : Bool) → cond t (Some Cause.StoreLength) (Some Cause.Unsound) ≡ Some (cond t Cause.StoreLength Cause.Unsound)
       go true = refl
       go false = refl
 

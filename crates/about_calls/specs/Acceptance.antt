@@ -1,18 +1,15 @@
 -- Demand 1: on a sound unit with a sound store and a set clock every lawful file for the plant that fits is accepted.
-use Rattle.std.specs.Prelude.{ℕ, ◌≤◌, ◌≡◌, Bool, true, ◌&&◌, ◌||◌, List, map, leb, length}
-use Rattle.std.proofs.Math.Option.{some}
+use Rattle.std.specs.Prelude.{ℕ, ◌≤◌, ◌≡◌, Bool, true, ◌&&◌, ◌||◌, List, map, leb, length, Some, Ok}
 use Rattle.rules.specs.Calendar.{month_count}
 use Rattle.rules.specs.Name.{encode_name}
 use Rattle.rules.specs.Body.{encode_body, is_schedule}
 use Rattle.rules.specs.File.{File, lawful, records_in}
 use Rattle.rules.specs.Store.{block_count, store_length, member, sound_store}
 use Rattle.rules.specs.Machine.{any_record, count_below}
-use Rattle.rules.specs.declared.Answer.{Answer}
 use Rattle.pool.specs.Held.{held_of}
 use Rattle.unit.specs.Values.{is_sound}
 use Rattle.taking.specs.Taken.{take_of}
 use Rattle.unit.specs.declared.Unit.{Unit}
-use Rattle.unit.specs.declared.Clock.{Clock}
 
 -- month m is held
 abbrev pub holds_month : Unit → ℕ → Bool
@@ -28,8 +25,8 @@ AcceptsLawful =
     → is_sound u ≡ true
     → length store ≡ store_length
     → sound_store (held_of u.pool) store ≡ true
-    → u.clock ≡ Clock.At t
-    → lawful (some u.plant.id) f ≡ true
+    → u.clock ≡ Some t
+    → lawful (Some u.plant.id) f ≡ true
     → is_schedule f.name.format ≡ true
     → together u f ≤ block_count
-    → (take_of u store (encode_name f.name) (encode_body f.body)).answer ≡ Answer.Accepted
+    → (take_of u store (encode_name f.name) (encode_body f.body)).answer ≡ Ok tt

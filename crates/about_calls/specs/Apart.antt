@@ -1,10 +1,9 @@
 -- The auditor's sentence, whole: 'can two months of a schedule ever occupy the same memory?' After every list of calls the months that the plain
 -- machine holds and the blocks that are not free are matched one to one, and from call to call no month changes its block.
-use Rattle.std.specs.Prelude.{ℕ, ◌+◌, ◌≤◌, ◌<◌, ◌≡◌, ◌⊎◌, true, false, List, length, get_or}
+use Rattle.std.specs.Prelude.{ℕ, ◌+◌, ◌≤◌, ◌<◌, ◌≡◌, ◌⊎◌, true, false, List, length, get_or, Ok}
 use Rattle.rules.specs.Plant.{Settings}
 use Rattle.rules.specs.Store.{block_count, block_length, store_length, block_of, no_rate, to_byte}
 use Rattle.rules.specs.Machine.{Machine, Told, Call, fresh_machine, is_held, held_count, step as machine_step, after as machine_after}
-use Rattle.rules.specs.declared.Answer.{Answer}
 use Rattle.plant.specs.Plant.{valid_plant}
 use Rattle.plant.specs.declared.Plant.{Plant}
 use Rattle.pool.specs.Blocks.{is_free, free_count}
@@ -85,5 +84,5 @@ MonthsMatched = (p : Plant) → valid_plant p ≡ true → (store : List ℕ) �
 -- for every install that is accepted, from the unit that it gave, the machine told the caller's own ID and settings
 abbrev pub InstalledMatched : Type 0
 InstalledMatched =
-    (id mac : List ℕ) (set : Settings) → (installed_unit id mac set).answer ≡ Answer.Accepted → (store : List ℕ)
+    (id mac : List ℕ) (set : Settings) → (installed_unit id mac set).answer ≡ Ok tt → (store : List ℕ)
     → MatchedFrom (told_by id set store) (installed_state id mac set store) fresh_machine

@@ -1,13 +1,12 @@
 -- Installing 'refuses only where cause 1 or 2 applies and otherwise gives the fresh unit of those values'; what it hands back where it refuses, every call
 -- refuses. `installed_unit` is the definition in the contract of Unit::install.
-use Rattle.std.specs.Prelude.{ℕ, ◌<◌, ◌≡◌, true, false, List, map, ◌↔◌}
+use Rattle.std.specs.Prelude.{ℕ, ◌<◌, ◌≡◌, true, false, List, map, ◌↔◌, Ok, Err}
 use Rattle.rules.specs.Plant.{Settings}
 use Rattle.rules.specs.Store.{Values, block_count, fresh_values}
 use Rattle.rules.specs.Machine.{Call}
 use Rattle.rules.specs.Table.{applies_in, Lowest}
 use Rattle.rules.specs.Writer.{refuse}
 use Rattle.rules.specs.Rows.{install_rows}
-use Rattle.rules.specs.declared.Answer.{Answer}
 use Rattle.rules.specs.declared.Cause.{Cause}
 use Rattle.plant.specs.Plant.{plant_of, valid_plant}
 use Rattle.unit.specs.Values.{values_of, is_sound, fresh_unit, installed_unit}
@@ -17,11 +16,11 @@ use Rattle.about_calls.specs.Theorem.{installed_state, unsound_reply}
 
 abbrev pub InstallRefuses : Type 0
 InstallRefuses =
-    (id mac : List ℕ) (set : Settings) (k : Cause) → ((installed_unit id mac set).answer ≡ Answer.Refused k) ↔ Lowest (install_rows id mac set) k
+    (id mac : List ℕ) (set : Settings) (k : Cause) → ((installed_unit id mac set).answer ≡ Err k) ↔ Lowest (install_rows id mac set) k
 
 abbrev pub InstallAccepts : Type 0
 InstallAccepts =
-    (id mac : List ℕ) (set : Settings) → ((installed_unit id mac set).answer ≡ Answer.Accepted) ↔ ((k : Cause) → applies_in (install_rows id mac set) k ≡ false)
+    (id mac : List ℕ) (set : Settings) → ((installed_unit id mac set).answer ≡ Ok tt) ↔ ((k : Cause) → applies_in (install_rows id mac set) k ≡ false)
 
 -- ---- an accepted install
 
@@ -45,14 +44,14 @@ pub record FreshOf (id mac : List ℕ) (set : Settings) : Type 0 where
   pub sound : is_sound (installed_unit id mac set).unit ≡ true
 
 abbrev pub InstallFresh : Type 0
-InstallFresh = (id mac : List ℕ) (set : Settings) → (installed_unit id mac set).answer ≡ Answer.Accepted → FreshOf id mac set
+InstallFresh = (id mac : List ℕ) (set : Settings) → (installed_unit id mac set).answer ≡ Ok tt → FreshOf id mac set
 
 -- ---- a refused install
 
 -- every list of calls on the unit that it hands back is refused, call by call, with unit and store as they were; and so is every request
 abbrev pub RefusedInstall : Type 0
 RefusedInstall =
-    (id mac : List ℕ) (set : Settings) (k : Cause) → (installed_unit id mac set).answer ≡ Answer.Refused k
+    (id mac : List ℕ) (set : Settings) (k : Cause) → (installed_unit id mac set).answer ≡ Err k
     → (store : List ℕ) (cs : List Call)
     → (replies cs (installed_state id mac set store) ≡ map (unsound_reply store) cs)
     × (after cs (installed_state id mac set store) ≡ installed_state id mac set store)

@@ -1,7 +1,6 @@
 -- Demand 1: every call on every unit and store, sound or not, is answered, or refused with the first cause whose row of 01's table, or of 02, applies, unit and
 -- store as they were. Each row has a test of its own; the rows of a file taken are reading's, then 14, and of a response 17 before them.
-use Rattle.std.specs.Prelude.{ℕ, ◌≡◌, Bool, true, false, not, ◌&&◌, ◌||◌, List, [], ◌∷◌, ◌++◌, ◌↔◌, ltb, eqb, length}
-use Rattle.std.proofs.Math.Option.{Option, none, some}
+use Rattle.std.specs.Prelude.{ℕ, ◌≡◌, Bool, true, false, not, ◌&&◌, ◌||◌, List, [], ◌∷◌, ◌++◌, ◌↔◌, ltb, eqb, length, Ok, Err, Option, None, Some}
 use Rattle.rules.specs.Calendar.{end_of_time, slot_count}
 use Rattle.rules.specs.Name.{parse_name}
 use Rattle.rules.specs.Store.{store_length, sound_store}
@@ -10,7 +9,6 @@ use Rattle.rules.specs.Machine.{Call, tick, clock_lost, file_taken, response_tak
 use Rattle.rules.specs.Table.{Row, row, applies_in, Lowest}
 use Rattle.rules.specs.Response.{parse_response}
 use Rattle.rules.specs.Rows.{taken_rows, formless}
-use Rattle.rules.specs.declared.Answer.{Answer}
 use Rattle.rules.specs.declared.Cause.{Cause}
 use Rattle.pool.specs.Held.{held_of}
 use Rattle.unit.specs.Values.{is_sound}
@@ -51,8 +49,8 @@ taking_rows u name body = taken_rows u.plant.id name body ++ (row Cause.Full (fu
 
 -- of the name and file that a response carries; nothing to judge where it carries none
 abbrev pub carried_by : Unit → Option (List ℕ × List ℕ) → List Row
-carried_by u none = []
-carried_by u (some q) = taking_rows u q.0 q.1
+carried_by u None = []
+carried_by u (Some q) = taking_rows u q.0 q.1
 
 -- no other call than a file or a response taken has these; 17 'A response that breaks this form', 'after 5 and before 7'
 abbrev pub of_file : Call → Unit → List Row
@@ -107,12 +105,12 @@ file_rows u store name body = call_rows (file_taken name body) (record { unit = 
 abbrev pub FileRefuses : Type 0
 FileRefuses =
     (u : Unit) (store name body : List ℕ) (k : Cause)
-    → ((take_of u store name body).answer ≡ Answer.Refused k) ↔ Lowest (file_rows u store name body) k
+    → ((take_of u store name body).answer ≡ Err k) ↔ Lowest (file_rows u store name body) k
 
 abbrev pub FileAccepts : Type 0
 FileAccepts =
     (u : Unit) (store name body : List ℕ)
-    → ((take_of u store name body).answer ≡ Answer.Accepted) ↔ ((k : Cause) → applies_in (file_rows u store name body) k ≡ false)
+    → ((take_of u store name body).answer ≡ Ok tt) ↔ ((k : Cause) → applies_in (file_rows u store name body) k ≡ false)
 
 -- ---- of a response taken, in the answer that `take_response` gives
 
@@ -122,9 +120,9 @@ whole_rows u store boundary bytes = call_rows (response_taken boundary bytes) (r
 abbrev pub WholeRefuses : Type 0
 WholeRefuses =
     (u : Unit) (store boundary bytes : List ℕ) (k : Cause)
-    → ((response_of u store boundary bytes).answer ≡ Answer.Refused k) ↔ Lowest (whole_rows u store boundary bytes) k
+    → ((response_of u store boundary bytes).answer ≡ Err k) ↔ Lowest (whole_rows u store boundary bytes) k
 
 abbrev pub WholeAccepts : Type 0
 WholeAccepts =
     (u : Unit) (store boundary bytes : List ℕ)
-    → ((response_of u store boundary bytes).answer ≡ Answer.Accepted) ↔ ((k : Cause) → applies_in (whole_rows u store boundary bytes) k ≡ false)
+    → ((response_of u store boundary bytes).answer ≡ Ok tt) ↔ ((k : Cause) → applies_in (whole_rows u store boundary bytes) k ≡ false)

@@ -1,10 +1,9 @@
 -- What follows from the theorem, in the operator's words.
-use Rattle.std.specs.Prelude.{ℕ, ◌<◌, ◌≡◌, Bool, true, false, List, length}
+use Rattle.std.specs.Prelude.{ℕ, ◌<◌, ◌≡◌, Bool, true, false, List, length, Ok}
 use Rattle.rules.specs.Calendar.{slot_count}
 use Rattle.rules.specs.File.{File, file, take_file, records_in}
 use Rattle.rules.specs.Store.{store_length, block_count}
 use Rattle.rules.specs.Machine.{Call, tick, clock_lost, file_taken, response_taken, failure, due, ceiling_of, command, free_blocks, fresh_machine, rate_of, any_record, after as machine_after}
-use Rattle.rules.specs.declared.Answer.{Answer}
 use Rattle.plant.specs.Plant.{valid_plant}
 use Rattle.plant.specs.declared.Plant.{Plant}
 use Rattle.schedule.specs.Stored.{stored_rate}
@@ -27,7 +26,7 @@ TakeUntouched =
     (u : Unit) (store name body : List ℕ) (f : File)
     → length u.pool.months ≡ block_count
     → take_file u.plant.id name body ≡ file f
-    → (take_of u store name body).answer ≡ Answer.Accepted
+    → (take_of u store name body).answer ≡ Ok tt
     → Untouched u.floor (λ m. any_record m (records_in f.body))
     (record { pool = u.pool; store = store })
     (record { pool = (take_of u store name body).unit.pool; store = store_after_take u store name body })

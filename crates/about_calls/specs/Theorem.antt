@@ -1,10 +1,9 @@
 -- Demand 3: for every list of calls the unit answers as the plain machine does, and pool and store say what the machine's files say.
-use Rattle.std.specs.Prelude.{ℕ, ◌≡◌, Bool, true, false, cond, not, ◌&&◌, List, map, eqb, length}
+use Rattle.std.specs.Prelude.{ℕ, ◌≡◌, Bool, true, false, cond, not, ◌&&◌, List, map, eqb, length, Ok}
 use Rattle.rules.specs.Plant.{Settings}
 use Rattle.rules.specs.Store.{store_length, member, sound_store}
 use Rattle.rules.specs.Causes.{Reply, refused, number_of}
 use Rattle.rules.specs.Machine.{Machine, Told, Call, tick, clock_lost, file_taken, response_taken, failure, due, ceiling_of, command, free_blocks, fresh_machine, is_held, replies as machine_replies, after as machine_after}
-use Rattle.rules.specs.declared.Answer.{Answer}
 use Rattle.rules.specs.declared.Cause.{Cause}
 use Rattle.plant.specs.Plant.{valid_plant, settings_of}
 use Rattle.plant.specs.declared.Plant.{Plant}
@@ -49,7 +48,7 @@ told_by id set store = record { plant = id; settings = set; store_length = lengt
 -- the same for every install that is accepted
 abbrev pub EveryListInstalled : Type 0
 EveryListInstalled =
-    (id mac : List ℕ) (set : Settings) → (installed_unit id mac set).answer ≡ Answer.Accepted → (store : List ℕ) (cs : List Call)
+    (id mac : List ℕ) (set : Settings) → (installed_unit id mac set).answer ≡ Ok tt → (store : List ℕ) (cs : List Call)
     → (replies cs (installed_state id mac set store) ≡ machine_replies (told_by id set store) cs fresh_machine)
     × Holds (after cs (installed_state id mac set store)) (machine_after (told_by id set store) cs fresh_machine)
 

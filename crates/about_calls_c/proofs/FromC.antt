@@ -1,12 +1,13 @@
 -- The theorem for C: the unit's, and the list from C is the unit's; from jag_install on, accepted or refused.
+use Rattle.std.specs.Prelude.{Ok, Err}
 use Prim.Native.Nat.{ℕ}
 use mathlib.Core.Path.{◌≡◌, refl, ap, ◌∙◌}
 use mathlib.Core.Bool.{true}
 use mathlib.Core.List.{List}
 use native.Mathlib.Omega.{arith}
+use Rattle.rules.specs.Causes.{Answer}
 use Rattle.rules.specs.Causes.{number_of}
 use Rattle.rules.specs.Plant.{Settings, installing}
-use Rattle.rules.specs.declared.Answer.{Answer}
 use Rattle.about_files.proofs.Causes.{numbered}
 use Rattle.plant.specs.Plant.{is_kept, settings_of, plant_of, no_plant, installed}
 use Rattle.plant.specs.declared.Installed.{Installed}
@@ -37,21 +38,21 @@ module _ (id mac : List ℕ) (set : Settings) where
   unfolding newly installed_unit
   hands p e = ap (λ (q : Plant). shut_of (fresh_unit q)) e
 
-  pub accepts : (held_install id mac set).cause ≡ 0 → installing id mac set ≡ Answer.Accepted
+  pub accepts : (held_install id mac set).cause ≡ 0 → installing id mac set ≡ Ok tt
   unfolding newly installed_unit installed
   accepts zero = go (installing id mac set) refl
     where
-      go : (a : Answer) → installing id mac set ≡ a → installing id mac set ≡ Answer.Accepted
-      go Answer.Accepted e = e
-      go (Answer.Refused c) e = let z : number_of c ≡ 0 = rw e at zero in absurd (omega (arith, (numbered c).0))
+      go : (a : Answer) → installing id mac set ≡ a → installing id mac set ≡ Ok tt
+      go (Ok tt) e = e
+      go (Err c) e = let z : number_of c ≡ 0 = rw e at zero in absurd (omega (arith, (numbered c).0))
 
   refuses : ((held_install id mac set).cause ≡ 0 → ⊥) → (installed id mac set).plant ≡ no_plant
   unfolding newly installed_unit installed
   refuses other = go (installing id mac set) refl
     where
       go : (a : Answer) → installing id mac set ≡ a → (installed id mac set).plant ≡ no_plant
-      go Answer.Accepted e = absurd (other (rw e))
-      go (Answer.Refused c) e = rw e
+      go (Ok tt) e = absurd (other (rw e))
+      go (Err c) e = rw e
 
 pub installed-from-c : InstalledFromC
 installed-from-c id mac set zero store cs =

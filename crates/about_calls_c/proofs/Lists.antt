@@ -1,9 +1,9 @@
 -- A list of calls from C is the unit's own: call by call, then over the list.
+use Rattle.std.specs.Prelude.{Result, Ok, Err, Option, None, Some}
 use Prim.Native.Nat.{ℕ}
 use mathlib.Core.Path.{◌≡◌, refl, sym, ap, ◌∙◌}
 use mathlib.Core.Bool.{Bool, true, false, false≢true}
 use mathlib.Core.List.{List, [], ◌∷◌}
-use mathlib.Core.Option.{Option, none, some}
 use native.Mathlib.Omega.{arith}
 use borrow.Author.Tests.{ne_eqb}
 use Rattle.rules.specs.Causes.{Reply, accepted, refused, number_of, of_due, of_ceiling, of_command, of_free_blocks}
@@ -13,9 +13,7 @@ use Rattle.rules.specs.Response.{take_response}
 use Rattle.rules.specs.Table.{first_of}
 use Rattle.rules.specs.declared.Cause.{Cause}
 use Rattle.rules.specs.declared.Ceiling.{Ceiling}
-use Rattle.rules.specs.declared.Command.{Command}
 use Rattle.rules.specs.declared.Due.{Due}
-use Rattle.rules.specs.declared.FreeBlocks.{FreeBlocks}
 use Rattle.about_files.proofs.Causes.{numbered}
 use Rattle.plant.specs.Plant.{is_kept, settings_of}
 use Rattle.unit.specs.Values.{is_sound}
@@ -37,24 +35,24 @@ use Rattle.about_calls_c.proofs.Unsound.{step-refused}
 pub cause-refused : (c : Cause) (r : Reply) → as_refused (number_of c) r ≡ refused (number_of c)
 cause-refused c r = let n = (numbered c).0 in rw (ne_eqb (number_of c) 0 (λ e. omega arith)) refl
 
-ceiling-means : (a : Ceiling) → ceiling_means (ceiling_numbers a) ≡ of_ceiling a
-ceiling-means (Ceiling.Rated r p) = refl
-ceiling-means Ceiling.NoRate = refl
-ceiling-means (Ceiling.Refused c) = cause-refused c _
+ceiling-means : (a : Result (Option Ceiling) Cause) → ceiling_means (ceiling_numbers a) ≡ of_ceiling a
+ceiling-means (Ok (Some c)) = refl
+ceiling-means (Ok None) = refl
+ceiling-means (Err c) = cause-refused c _
 
-command-means : (a : Command) → command_means (command_number a) ≡ of_command a
-command-means (Command.Parts n) = refl
-command-means (Command.Refused c) = cause-refused c _
+command-means : (a : Result ℕ Cause) → command_means (command_number a) ≡ of_command a
+command-means (Ok n) = refl
+command-means (Err c) = cause-refused c _
 
-blocks-means : (a : FreeBlocks) → blocks_means (blocks_number a) ≡ of_free_blocks a
-blocks-means (FreeBlocks.Blocks n) = refl
-blocks-means (FreeBlocks.Refused c) = cause-refused c _
+blocks-means : (a : Result ℕ Cause) → blocks_means (blocks_number a) ≡ of_free_blocks a
+blocks-means (Ok n) = refl
+blocks-means (Err c) = cause-refused c _
 
-due-means : (a : Due) → due_means (due_numbers a) ≡ of_due a
-due-means Due.Update = refl
-due-means (Due.Fixed w) = refl
-due-means Due.Nothing = refl
-due-means (Due.Refused c) = cause-refused c _
+due-means : (a : Result (Option Due) Cause) → due_means (due_numbers a) ≡ of_due a
+due-means (Ok (Some Due.Update)) = refl
+due-means (Ok (Some (Due.Fixed w))) = refl
+due-means (Ok None) = refl
+due-means (Err c) = cause-refused c _
 
 -- ---- a call
 
@@ -62,8 +60,8 @@ due-means (Due.Refused c) = cause-refused c _
 done-same : (o : Option Cause) (new old : Unit) (store : List ℕ) → handed_step (handed (shut_of old) (done_by o new old)) store
     ≡ ((step_done (done_by o new old) store).0, shut_state (step_done (done_by o new old) store).1)
 unfolding handed
-done-same none new old store = refl
-done-same (some c) new old store = ap (λ (r : Reply). (r, record { unit = shut_of old; store = store })) (cause-refused c accepted)
+done-same None new old store = refl
+done-same (Some c) new old store = ap (λ (r : Reply). (r, record { unit = shut_of old; store = store })) (cause-refused c accepted)
 
 -- where 32 bits hold the settings, the struct stands for the unit
 module _ (s : State) (kept : is_kept (settings_of s.unit.plant) ≡ true) where

@@ -1,9 +1,9 @@
 -- What an accepted file is: the one place to cite for whoever needs something of a file that was read or taken.
+use Rattle.std.specs.Prelude.{Ok, Err, Option, Some}
 use Prim.Native.Nat.{ℕ, ◌+◌, ◌*◌, ◌≤◌}
 use mathlib.Core.Path.{◌≡◌, ◌∙◌, refl, sym, ap}
 use mathlib.Core.Bool.{true, false≢true}
 use mathlib.Core.List.{List, [], ◌∷◌}
-use mathlib.Core.Option.{Option, some}
 use native.Mathlib.Nat.{suc-mul}
 use native.Mathlib.Omega.{arith}
 use lib.Dec.{eqb}
@@ -18,7 +18,6 @@ use Rattle.rules.specs.declared.Cause.{Cause}
 use Rattle.rules.specs.declared.Format.{Format}
 use Rattle.rules.specs.declared.Format.TheVariants.{F201, F202, F203, F301}
 use Rattle.rules.specs.declared.Summary.{Summary}
-use Rattle.rules.specs.declared.Reading.TheVariants.{Read, Refused}
 use Rattle.laws.proofs.Tests.{both}
 use Rattle.laws.proofs.Facts.{LawfulName, name-facts}
 use Rattle.about_files.specs.Reading.{LawfulBytes, Rules}
@@ -33,12 +32,12 @@ pub record FileRead (o : Outcome) (x : Summary) : Type 0 where
   pub is : o ≡ file the-file
   pub summary : x ≡ summary_of the-file
 
-pub file-read : (o : Outcome) (x : Summary) → reading_of o ≡ Read x → FileRead o x
+pub file-read : (o : Outcome) (x : Summary) → reading_of o ≡ Ok x → FileRead o x
 unfolding reading_of
 file-read (refuse c) x e = let z : ◌≡◌ {A = ℕ} 0 1 = cc in absurd (omega arith)
 file-read (file f) x e = record { the-file = f; is = refl; summary = cc }
 
-pub read-refused : (o : Outcome) (c : Cause) → reading_of o ≡ Refused c → o ≡ refuse c
+pub read-refused : (o : Outcome) (c : Cause) → reading_of o ≡ Err c → o ≡ refuse c
 unfolding reading_of
 read-refused (refuse x) c e = let same : x ≡ c = cc in ap {B = Outcome} refuse same
 read-refused (file f) c e = let z : ◌≡◌ {A = ℕ} 0 1 = cc in absurd (omega arith)
@@ -81,7 +80,7 @@ is-records F301 (registration plant result) i e = absurd (false≢true i)
 
 pub record Accepted (body : List ℕ) (f : File) : Type 0 where
   pub name : LawfulName f.name
-  pub parses : parse_body f.name.format body ≡ some f.body
+  pub parses : parse_body f.name.format body ≡ Some f.body
   pub is-schedule : is_schedule f.name.format ≡ true → f.body ≡ schedule (records_in f.body)
   pub records : (rs : List Record) → f.body ≡ schedule rs → Scheduled f.name rs
 
@@ -101,7 +100,7 @@ accepted plant name body f e = bytes-accepted plant name body f ((read-exactly p
 -- a file that a unit takes is a schedule
 pub record Taken (body : List ℕ) (f : File) : Type 0 where
   pub name : LawfulName f.name
-  pub parses : parse_body f.name.format body ≡ some f.body
+  pub parses : parse_body f.name.format body ≡ Some f.body
   pub is-schedule : f.body ≡ schedule (records_in f.body)
   pub records : Scheduled f.name (records_in f.body)
 
@@ -113,7 +112,7 @@ schedule-read body f i a =
 pub taken : (plant name body : List ℕ) (f : File) → take_file plant name body ≡ file f → Taken body f
 taken plant name body f e =
     let m = (taken-exactly plant name body f).0 e in
-    schedule-read body f m.1 (bytes-accepted (some plant) name body f m.0)
+    schedule-read body f m.1 (bytes-accepted (Some plant) name body f m.0)
 
 -- the same, whichever name and body it came by
 pub record TakenBy (plant : List ℕ) (f : File) : Type 0 where

@@ -1,9 +1,10 @@
 -- The records and the whole body: what is parsed as a body is exactly the bytes of one that has the format's form.
+use Rattle.std.specs.Option.{option_map}
+use Rattle.std.specs.Prelude.{Option, None, Some}
 use Prim.Native.Nat.{ℕ, zero, suc, ◌+◌, ◌^◌, ◌<◌}
 use mathlib.Core.Path.{◌≡◌, ◌∙◌, refl, sym, ap, ap₂}
 use mathlib.Core.Bool.{Bool, true, false, ◌&&◌, false≢true}
 use mathlib.Core.List.{List, [], ◌∷◌, ◌++◌}
-use mathlib.Core.Option.{Option, none, some, map}
 use native.Mathlib.Omega.{arith}
 use lib.Dec.{leb, eqb, lit<, eqb-suc-zero}
 use lib.ListN.{length, get_or, drop, length-append}
@@ -25,37 +26,37 @@ use Rattle.about_files.proofs.Record.{form-facts, facts-form, read-form, read-by
 abbrev Made : Format → ℕ → List ℕ → List Record → Type 0
 Made f k s rs = (s ≡ encode_records rs) × (length rs ≡ k) × (every (form_of_record f) rs ≡ true)
 
-made_none : (f : Format) (s : List ℕ) (rs : List Record) → parse_records f 0 s ≡ some rs → Made f 0 s rs
+made_none : (f : Format) (s : List ℕ) (rs : List Record) → parse_records f 0 s ≡ Some rs → Made f 0 s rs
 unfolding parse_records encode_records every
 made_none f [] [] e = (refl, refl, refl)
 made_none f [] (r ∷ rs) e = let z : ◌≡◌ {A = ℕ} 0 1 = cc in absurd (omega arith)
 made_none f (x ∷ s) rs e = no-some (rw (eqb-suc-zero (length s)) at e)
 
 made_more : (f : Format) (k : ℕ) (s : List ℕ) (rs : List Record) → record_shape f s ≡ true → (o : Option (List Record))
-    → ((rs' : List Record) → o ≡ some rs' → Made f k (drop (size_of f s) s) rs') → before (record_at f s) o ≡ some rs → Made f (suc k) s rs
+    → ((rs' : List Record) → o ≡ Some rs' → Made f k (drop (size_of f s) s) rs') → before (record_at f s) o ≡ Some rs → Made f (suc k) s rs
 unfolding encode_records every
-made_more f k s rs h none ih e = no-some e
-made_more f k s [] h (some rs') ih e = let z : ◌≡◌ {A = ℕ} 0 1 = cc in absurd (omega arith)
-made_more f k s (r ∷ rs) h (some rs') ih e =
+made_more f k s rs h None ih e = no-some e
+made_more f k s [] h (Some rs') ih e = let z : ◌≡◌ {A = ℕ} 0 1 = cc in absurd (omega arith)
+made_more f k s (r ∷ rs) h (Some rs') ih e =
     let r≡ : record_at f s ≡ r = cc in
     let rs≡ : rs' ≡ rs = cc in
-    let m = ih rs (ap (λ (q : List Record). some q) rs≡) in
+    let m = ih rs (ap (λ (q : List Record). Some q) rs≡) in
     let m₀ : drop (size_of f s) s ≡ encode_records rs = m.0 in
     let m₁ : length rs ≡ k = m.1 in
     let g : form_of_record f r ≡ true = rw r≡ at (facts-form f (record_at f s) (read-form f s h)) in
     (read-bytes f s h ∙ ap₂ (λ (q : Record) (x : List ℕ). encode_record q ++ x) r≡ m₀, omega arith, join g m.2)
 
-records-made : (f : Format) (k : ℕ) (s : List ℕ) (rs : List Record) → parse_records f k s ≡ some rs → Made f k s rs
+records-made : (f : Format) (k : ℕ) (s : List ℕ) (rs : List Record) → parse_records f k s ≡ Some rs → Made f k s rs
 unfolding parse_records
 records-made f zero s rs e = made_none f s rs e
 records-made f (suc k) s rs e = go (record_shape f s) refl (λ rs' q. records-made f k (drop (size_of f s) s) rs' q)
   where
     go : (b : Bool) → record_shape f s ≡ b
-        → ((rs' : List Record) → parse_records f k (drop (size_of f s) s) ≡ some rs' → Made f k (drop (size_of f s) s) rs') → Made f (suc k) s rs
+        → ((rs' : List Record) → parse_records f k (drop (size_of f s) s) ≡ Some rs' → Made f k (drop (size_of f s) s) rs') → Made f (suc k) s rs
     go true h ih = made_more f k s rs h (parse_records f k (drop (size_of f s) s)) ih (rw h at e)
     go false h ih = no-some (rw h at e)
 
-made-records : (f : Format) (rs : List Record) → every (form_of_record f) rs ≡ true → parse_records f (length rs) (encode_records rs) ≡ some rs
+made-records : (f : Format) (rs : List Record) → every (form_of_record f) rs ≡ true → parse_records f (length rs) (encode_records rs) ≡ Some rs
 unfolding parse_records encode_records every
 made-records f [] e = refl
 made-records f (r ∷ rs) e =
@@ -67,7 +68,7 @@ made-records f (r ∷ rs) e =
 pub records-exactly : RecordsExactly
 records-exactly f k s rs = (records-made f k s rs, back)
   where
-    back : Made f k s rs → parse_records f k s ≡ some rs
+    back : Made f k s rs → parse_records f k s ≡ Some rs
     back m = rw (m.0, sym m.1) (made-records f rs m.2)
 
 -- ---- what follows the count, and the count
@@ -121,18 +122,18 @@ last_byte s l =
     let h : 26 < length s = omega arith in
     sym (take_all 27 s (omega arith)) ∙ take-suc s 26 0 h
 
-registration-made : (s : List ℕ) (b : Body) → parse_registration s ≡ some b → (s ≡ rest_bytes b) × (form_of_body F301 b ≡ true)
+registration-made : (s : List ℕ) (b : Body) → parse_registration s ≡ Some b → (s ≡ rest_bytes b) × (form_of_body F301 b ≡ true)
 unfolding parse_registration form_of_body
 registration-made s (schedule rs) e = go (registered s) refl
   where
     go : (t : Bool) → registered s ≡ t → (s ≡ rest_bytes (schedule rs)) × (form_of_body F301 (schedule rs) ≡ true)
-    go true h = let q : some (registration (part s 0 26) (get_or s 26 0)) ≡ some (schedule rs) = rw h at e in let z : ◌≡◌ {A = ℕ} 0 1 = cc in absurd (omega arith)
+    go true h = let q : Some (registration (part s 0 26) (get_or s 26 0)) ≡ Some (schedule rs) = rw h at e in let z : ◌≡◌ {A = ℕ} 0 1 = cc in absurd (omega arith)
     go false h = no-some (rw h at e)
 registration-made s (registration plant result) e = go (registered s) refl
   where
     go : (t : Bool) → registered s ≡ t → (s ≡ plant ++ (result ∷ [])) × ((digits 26 plant && leb result 1) ≡ true)
     go true h =
-        let q : some (registration (part s 0 26) (get_or s 26 0)) ≡ some (registration plant result) = rw h at e in
+        let q : Some (registration (part s 0 26) (get_or s 26 0)) ≡ Some (registration plant result) = rw h at e in
         let p≡ : part s 0 26 ≡ plant = cc in
         let r≡ : get_or s 26 0 ≡ result = cc in
         let a = both (eqb (length s) 27 && all_digits (part s 0 26)) (leb (get_or s 26 0) 1) h in
@@ -142,7 +143,7 @@ registration-made s (registration plant result) e = go (registered s) refl
         (last_byte s l ∙ ap₂ (λ (x : List ℕ) (y : ℕ). x ++ (y ∷ [])) p≡ r≡, join d (rw r≡ at a.1))
     go false h = no-some (rw h at e)
 
-made-registration : (s : List ℕ) (b : Body) → s ≡ rest_bytes b → form_of_body F301 b ≡ true → parse_registration s ≡ some b
+made-registration : (s : List ℕ) (b : Body) → s ≡ rest_bytes b → form_of_body F301 b ≡ true → parse_registration s ≡ Some b
 unfolding parse_registration form_of_body
 made-registration s (schedule rs) e h = absurd (false≢true h)
 made-registration s (registration plant result) e h =
@@ -156,19 +157,19 @@ made-registration s (registration plant result) e h =
     rw e (rw (t, g) (rw (eq-eqb (length (plant ++ (result ∷ []))) 27 n, d.each, p.1) refl))
 
 -- ---- a schedule's records
-schedule-made : (f : Format) (s : List ℕ) (b : Body) → is_schedule f ≡ true → map schedule (parse_records f (count_of f) s) ≡ some b
+schedule-made : (f : Format) (s : List ℕ) (b : Body) → is_schedule f ≡ true → option_map schedule (parse_records f (count_of f) s) ≡ Some b
     → (s ≡ rest_bytes b) × (form_of_body f b ≡ true)
 schedule-made f s b h e = go (parse_records f (count_of f) s) refl e
   where
-    go : (o : Option (List Record)) → parse_records f (count_of f) s ≡ o → map schedule o ≡ some b → (s ≡ rest_bytes b) × (form_of_body f b ≡ true)
-    go none p q = no-some q
-    go (some rs) p q =
+    go : (o : Option (List Record)) → parse_records f (count_of f) s ≡ o → option_map schedule o ≡ Some b → (s ≡ rest_bytes b) × (form_of_body f b ≡ true)
+    go None p q = no-some q
+    go (Some rs) p q =
         let b≡ : schedule rs ≡ b = cc in
         let m = records-made f (count_of f) s rs p in
         rw (sym b≡) (m.0, facts-schedule f rs h m.1 m.2)
 
 made-schedule : (f : Format) (s : List ℕ) (b : Body) → is_schedule f ≡ true → s ≡ rest_bytes b → form_of_body f b ≡ true
-    → map schedule (parse_records f (count_of f) s) ≡ some b
+    → option_map schedule (parse_records f (count_of f) s) ≡ Some b
 unfolding form_of_body
 made-schedule f s (schedule rs) h e g =
     let q = schedule-facts f rs g in
@@ -178,13 +179,13 @@ made-schedule F202 s (registration plant result) h e g = absurd (false≢true g)
 made-schedule F203 s (registration plant result) h e g = absurd (false≢true g)
 made-schedule F301 s (registration plant result) h e g = absurd (false≢true h)
 
-rest-made : (f : Format) (s : List ℕ) (b : Body) → parse_rest f s ≡ some b → (s ≡ rest_bytes b) × (form_of_body f b ≡ true)
+rest-made : (f : Format) (s : List ℕ) (b : Body) → parse_rest f s ≡ Some b → (s ≡ rest_bytes b) × (form_of_body f b ≡ true)
 rest-made F201 s b e = schedule-made F201 s b refl e
 rest-made F202 s b e = schedule-made F202 s b refl e
 rest-made F203 s b e = schedule-made F203 s b refl e
 rest-made F301 s b e = registration-made s b e
 
-made-rest : (f : Format) (s : List ℕ) (b : Body) → s ≡ rest_bytes b → form_of_body f b ≡ true → parse_rest f s ≡ some b
+made-rest : (f : Format) (s : List ℕ) (b : Body) → s ≡ rest_bytes b → form_of_body f b ≡ true → parse_rest f s ≡ Some b
 made-rest F201 s b p q = made-schedule F201 s b refl p q
 made-rest F202 s b p q = made-schedule F202 s b refl p q
 made-rest F203 s b p q = made-schedule F203 s b refl p q
@@ -201,7 +202,7 @@ pub body-exactly : BodyExactly
 unfolding parse_body counted
 body-exactly f s b = (to (counted f s) refl, from)
   where
-    to : (t : Bool) → counted f s ≡ t → parse_body f s ≡ some b → (s ≡ encode_body b) × (form_of_body f b ≡ true)
+    to : (t : Bool) → counted f s ≡ t → parse_body f s ≡ Some b → (s ≡ encode_body b) × (form_of_body f b ≡ true)
     to false h e = no-some (rw h at e)
     to true h e =
         let m = rest-made f (drop 6 s) b (rw h at e) in
@@ -212,7 +213,7 @@ body-exactly f s b = (to (counted f s) refl, from)
         let c : part s 0 6 ≡ decimal 6 (count_in b) = sym d ∙ ap (decimal 6) (v ∙ sym (count-is f b m.1)) in
         (chop s 0 6 m.0 ∙ ap (λ (x : List ℕ). x ++ rest_bytes b) c ∙ sym (bytes-are b), m.1)
 
-    from : (s ≡ encode_body b) × (form_of_body f b ≡ true) → parse_body f s ≡ some b
+    from : (s ≡ encode_body b) × (form_of_body f b ≡ true) → parse_body f s ≡ Some b
     from m =
         let c : count_in b ≡ count_of f = count-is f b m.1 in
         let l : length (decimal 6 (count_in b)) ≡ 6 = length-decimal 6 (count_in b) in

@@ -1,9 +1,9 @@
 -- The name: what is parsed as a name is exactly the bytes of a lawful one.
+use Rattle.std.specs.Prelude.{Option, None, Some}
 use Prim.Native.Nat.{ℕ, ◌+◌, ◌^◌, ◌≤◌, ◌<◌}
 use mathlib.Core.Path.{◌≡◌, ◌∙◌, refl, sym, ap}
 use mathlib.Core.Bool.{Bool, true, false}
 use mathlib.Core.List.{List, ◌++◌}
-use mathlib.Core.Option.{Option, none, some}
 use native.Mathlib.Omega.{arith}
 use lib.Dec.{eqb, lit<}
 use lib.ListN.{length, length-append, length-map, drop_of_length-le}
@@ -20,18 +20,18 @@ use Rattle.about_files.proofs.Numerals.{digits_decimal, value-decimal, decimal-v
 use Rattle.about_files.proofs.Pieces.{piece, here, skip}
 
 -- ---- the format's number
-pub format_back : (f : Format) → format_of (format_number f) ≡ some f
+pub format_back : (f : Format) → format_of (format_number f) ≡ Some f
 unfolding format_of
 format_back F201 = refl
 format_back F202 = refl
 format_back F203 = refl
 format_back F301 = refl
 
-pub format-number : (n : ℕ) (f : Format) → format_of n ≡ some f → n ≡ format_number f
+pub format-number : (n : ℕ) (f : Format) → format_of n ≡ Some f → n ≡ format_number f
 unfolding format_of
 format-number n f e = go (eqb n 201) refl (eqb n 202) refl (eqb n 203) refl (eqb n 301) refl
   where
-    is : (k : ℕ) (g : Format) → eqb n k ≡ true → format_number g ≡ k → some g ≡ some f → n ≡ format_number f
+    is : (k : ℕ) (g : Format) → eqb n k ≡ true → format_number g ≡ k → Some g ≡ Some f → n ≡ format_number f
     is k g p q r = let g≡ : g ≡ f = cc in eqb-true n k p ∙ sym q ∙ ap format_number g≡
 
     go : (a : Bool) → eqb n 201 ≡ a → (b : Bool) → eqb n 202 ≡ b → (c : Bool) → eqb n 203 ≡ c → (d : Bool) → eqb n 301 ≡ d → n ≡ format_number f
@@ -161,7 +161,7 @@ module _ (n : Name) (g : LawfulName n) where
         ending = p_ending;
       })
 
-  bytes-format : format_of (value (from_ascii (part whole 0 3))) ≡ some n.format
+  bytes-format : format_of (value (from_ascii (part whole 0 3))) ≡ Some n.format
   bytes-format =
       rw (p-number, from-to (decimal 3 (format_number n.format)), value-decimal 3 (format_number n.format) (number_small n.format))
       (format_back n.format)
@@ -171,13 +171,13 @@ module _ (n : Name) (g : LawfulName n) where
 
 -- ---- the whole name
 name-made : (s : List ℕ) (n : Name) → name_shape s ≡ true → (o : Option Format) → format_of (value (from_ascii (part s 0 3))) ≡ o
-    → name_with o s ≡ some n → (s ≡ encode_name n) × (lawful_name n ≡ true)
-name-made s n h none p e = no-some e
-name-made s n h (some f) p e = go (lawful_name (name_fields f s)) refl
+    → name_with o s ≡ Some n → (s ≡ encode_name n) × (lawful_name n ≡ true)
+name-made s n h None p e = no-some e
+name-made s n h (Some f) p e = go (lawful_name (name_fields f s)) refl
   where
     go : (t : Bool) → lawful_name (name_fields f s) ≡ t → (s ≡ encode_name n) × (lawful_name n ≡ true)
     go true q =
-        let x : some (name_fields f s) ≡ some n = rw q at e in
+        let x : Some (name_fields f s) ≡ Some n = rw q at e in
         let n≡ : name_fields f s ≡ n = cc in
         rw (sym n≡) (read-bytes f s h (format-number _ f p), q)
     go false q = no-some (rw q at e)
@@ -186,13 +186,13 @@ pub name-exactly : NameExactly
 unfolding parse_name
 name-exactly s n = (to (name_shape s) refl, from)
   where
-    to : (t : Bool) → name_shape s ≡ t → parse_name s ≡ some n → (s ≡ encode_name n) × (lawful_name n ≡ true)
+    to : (t : Bool) → name_shape s ≡ t → parse_name s ≡ Some n → (s ≡ encode_name n) × (lawful_name n ≡ true)
     to true h e = name-made s n h (format_of (value (from_ascii (part s 0 3)))) refl (rw h at e)
     to false h e = no-some (rw h at e)
 
-    from : (s ≡ encode_name n) × (lawful_name n ≡ true) → parse_name s ≡ some n
+    from : (s ≡ encode_name n) × (lawful_name n ≡ true) → parse_name s ≡ Some n
     from m =
         let g = name-facts n m.1 in
         let f = bytes-fields n g in
         let x : lawful_name (name_fields n.format (encode_name n)) ≡ true = ap lawful_name f ∙ m.1 in
-        rw m.0 (rw (bytes-shape n g, bytes-format n g) (rw x (ap (λ (q : Name). some q) f)))
+        rw m.0 (rw (bytes-shape n g, bytes-format n g) (rw x (ap (λ (q : Name). Some q) f)))

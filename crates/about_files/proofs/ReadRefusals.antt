@@ -1,11 +1,12 @@
 -- The reader gives the lowest cause that applies, and a file exactly when none does.
+use Rattle.laws.proofs.Options.{some-injective, none-ne-some, some-ne-none}
+use Rattle.std.specs.Prelude.{Option, None, Some}
 use Prim.Native.Nat.{ℕ}
 use mathlib.Core.Path.{◌≡◌, ◌∙◌, refl, sym, ap, ap₂}
 use mathlib.Core.Bool.{Bool, true, false, cond, not, ◌||◌}
 use mathlib.Core.List.{List, [], ◌∷◌}
 use mathlib.Core.Logic.Iff
 use mathlib.Core.Logic.{◌↔◌}
-use mathlib.Core.Option.{Option, none, some, some-injective, some-ne-none, none-ne-some}
 use Rattle.rules.specs.Name.{Name, parse_name}
 use Rattle.rules.specs.Body.{Body, parse_body, is_schedule}
 use Rattle.rules.specs.File.{File, Outcome, refuse, file, id_fits, dates_hold, rates_hold, checksums_hold, plants_hold, stages, with_body, with_name, read_file, is_registration, take_file}
@@ -22,11 +23,11 @@ use Rattle.about_files.proofs.Table.{rising, first-lowest, first-none}
 -- ---- the first row that applies is the outcome's cause
 
 abbrev pub cause_of : Outcome → Option Cause
-cause_of (refuse c) = some c
-cause_of (file f) = none
+cause_of (refuse c) = Some c
+cause_of (file f) = None
 
 -- a stage is a row
-stage : (t : Bool) (c : Cause) (o : Outcome) {first : Option Cause} → cause_of o ≡ first → cause_of (need t (refuse c) o) ≡ cond (not t) (some c) first
+stage : (t : Bool) (c : Cause) (o : Outcome) {first : Option Cause} → cause_of o ≡ first → cause_of (need t (refuse c) o) ≡ cond (not t) (Some c) first
 stage true c o e = e
 stage false c o e = refl
 
@@ -40,8 +41,8 @@ body-first : (n : Name) (b : Option Body)
     ∷ row Cause.RecordPlant (broken (plants_hold n) b)
     ∷ [])
 unfolding first_of stages
-body-first n none = refl
-body-first n (some b) =
+body-first n None = refl
+body-first n (Some b) =
     stage (dates_hold n b) Cause.Date _
     (stage (rates_hold b) Cause.Rate _
     (stage (checksums_hold b) Cause.Checksum _
@@ -50,23 +51,23 @@ body-first n (some b) =
 name-first : (plant : Option (List ℕ)) (body : List ℕ) (n : Option Name)
     → cause_of (with_name plant body n) ≡ first_of (row Cause.Name (name_breaks n) ∷ later_rows plant n body)
 unfolding first_of
-name-first plant body none = refl
-name-first plant body (some n) = stage (id_fits plant n.plant) Cause.OtherPlant _ (body-first n (parse_body n.format body))
+name-first plant body None = refl
+name-first plant body (Some n) = stage (id_fits plant n.plant) Cause.OtherPlant _ (body-first n (parse_body n.format body))
 
 read_first : (plant : Option (List ℕ)) (name body : List ℕ) → cause_of (read_file plant name body) ≡ first_of (read_rows plant name body)
 unfolding read_file read_rows
 read_first plant name body = name-first plant body (parse_name name)
 
 take-name : (plant body : List ℕ) (n : Option Name)
-    → cause_of (need (not (is_registration n)) (refuse Cause.Name) (with_name (some plant) body n))
-    ≡ first_of (row Cause.Name (name_breaks n || is_registration n) ∷ later_rows (some plant) n body)
+    → cause_of (need (not (is_registration n)) (refuse Cause.Name) (with_name (Some plant) body n))
+    ≡ first_of (row Cause.Name (name_breaks n || is_registration n) ∷ later_rows (Some plant) n body)
 unfolding first_of
-take-name plant body none = refl
-take-name plant body (some n) = go (is_schedule n.format)
+take-name plant body None = refl
+take-name plant body (Some n) = go (is_schedule n.format)
   where
-    go : (t : Bool) → cause_of (need (not (not t)) (refuse Cause.Name) (with_name (some plant) body (some n)))
-        ≡ first_of (row Cause.Name (false || not t) ∷ later_rows (some plant) (some n) body)
-    go true = name-first (some plant) body (some n)
+    go : (t : Bool) → cause_of (need (not (not t)) (refuse Cause.Name) (with_name (Some plant) body (Some n)))
+        ≡ first_of (row Cause.Name (false || not t) ∷ later_rows (Some plant) (Some n) body)
+    go true = name-first (Some plant) body (Some n)
     go false = refl
 
 pub take-first : (plant name body : List ℕ) → cause_of (take_file plant name body) ≡ first_of (taken_rows plant name body)
@@ -92,7 +93,7 @@ one-parsed name body f g p q =
 
 -- ---- an outcome whose cause is that of the rows, and whose file is what name and body parse as
 
-has-cause : (o : Outcome) (c : Cause) → (o ≡ refuse c) ↔ (cause_of o ≡ some c)
+has-cause : (o : Outcome) (c : Cause) → (o ≡ refuse c) ↔ (cause_of o ≡ Some c)
 has-cause (refuse d) c = (λ e. ap cause_of e, λ e. ap refuse (some-injective d c e))
 has-cause (file f) c = (λ e. ap cause_of e, λ e. absurd (none-ne-some c e))
 
@@ -105,7 +106,7 @@ module _ (rows : List Row) (o : Outcome) (first : cause_of o ≡ first_of rows) 
   outcome_accepts name body parsed f =
       (λ e. ((first-none rows).0 (sym first ∙ ap cause_of e), parsed f e), λ h. go o refl (first ∙ (first-none rows).1 h.0) h.1)
     where
-      go : (x : Outcome) → o ≡ x → cause_of o ≡ none → Parsed name body f → o ≡ file f
+      go : (x : Outcome) → o ≡ x → cause_of o ≡ None → Parsed name body f → o ≡ file f
       go (refuse d) e clear p = absurd (some-ne-none d (sym (ap cause_of e) ∙ clear))
       go (file g) e clear p = e ∙ ap file (one-parsed name body g f (parsed g e) p)
 
@@ -128,5 +129,5 @@ take-refuses plant name body c = outcome_refuses (taken_rows plant name body) (t
 pub take-accepts : TakeAccepts
 take-accepts plant name body f =
     outcome_accepts (taken_rows plant name body) (take_file plant name body) (take-first plant name body) name body
-    (λ g e. lawful-parsed (some plant) name body g ((taken-exactly plant name body g).0 e).0)
+    (λ g e. lawful-parsed (Some plant) name body g ((taken-exactly plant name body g).0 e).0)
     f

@@ -1,9 +1,9 @@
 -- Reading is exact: the theorem and what follows from it.
+use Rattle.std.specs.Prelude.{Option, None, Some}
 use Prim.Native.Nat.{ℕ}
 use mathlib.Core.Path.{◌≡◌, ◌∙◌, refl, sym, ap}
 use mathlib.Core.Bool.{Bool, true, false, not, false≢true, not-not}
 use mathlib.Core.List.{List}
-use mathlib.Core.Option.{Option, none, some}
 use native.Mathlib.Omega.{arith}
 use Rattle.rules.specs.Name.{Name, parse_name}
 use Rattle.rules.specs.Body.{Body, parse_body, is_schedule}
@@ -44,7 +44,7 @@ facts-lawful plant f g i =
 
 -- ---- the file that is read
 module _ (plant : Option (List ℕ)) (name body : List ℕ) (f : File) where
-  read-stages : (n : Name) (b : Body) → parse_name name ≡ some n → id_fits plant n.plant ≡ true → parse_body n.format body ≡ some b
+  read-stages : (n : Name) (b : Body) → parse_name name ≡ Some n → id_fits plant n.plant ≡ true → parse_body n.format body ≡ Some b
       → stages n b ≡ file f → LawfulBytes plant name body f
   unfolding stages
   read-stages n b p i q e =
@@ -66,14 +66,14 @@ module _ (plant : Option (List ℕ)) (name body : List ℕ) (f : File) where
             i;
       })
 
-  read-body : (n : Name) (o : Option Body) → parse_name name ≡ some n → id_fits plant n.plant ≡ true → parse_body n.format body ≡ o
+  read-body : (n : Name) (o : Option Body) → parse_name name ≡ Some n → id_fits plant n.plant ≡ true → parse_body n.format body ≡ o
       → with_body n o ≡ file f → LawfulBytes plant name body f
-  read-body n none p i q e = no-file e
-  read-body n (some b) p i q e = read-stages n b p i q e
+  read-body n None p i q e = no-file e
+  read-body n (Some b) p i q e = read-stages n b p i q e
 
   read_name : (o : Option Name) → parse_name name ≡ o → with_name plant body o ≡ file f → LawfulBytes plant name body f
-  read_name none p e = no-file e
-  read_name (some n) p e =
+  read_name None p e = no-file e
+  read_name (Some n) p e =
       let s = passed (id_fits plant n.plant) Cause.OtherPlant (with_body n (parse_body n.format body)) f e in
       read-body n (parse_body n.format body) p s.0 refl s.1
 
@@ -130,30 +130,30 @@ module _ (plant : Option (List ℕ)) (name body : List ℕ) (f : File) where
 
 pub read-without-plant : ReadWithoutPlant
 read-without-plant name body f =
-    (λ e. apart none name body f ((read-exactly none name body f).0 e), λ m. (read-exactly none name body f).1 (together none name body f m.0 m.1))
+    (λ e. apart None name body f ((read-exactly None name body f).0 e), λ m. (read-exactly None name body f).1 (together None name body f m.0 m.1))
 
 pub read-with-plant : ReadWithPlant
 read-with-plant plant name body f = (
   λ e.
-      let m = apart (some plant) name body f ((read-exactly (some plant) name body f).0 e) in
+      let m = apart (Some plant) name body f ((read-exactly (Some plant) name body f).0 e) in
       (m.0, same-equal f.name.plant plant m.1),
-  λ m. (read-exactly (some plant) name body f).1 (together (some plant) name body f m.0 (equal-same m.1)),
+  λ m. (read-exactly (Some plant) name body f).1 (together (Some plant) name body f m.0 (equal-same m.1)),
 )
 
 -- ---- what a unit takes
-name-read : (plant : Option (List ℕ)) (name body : List ℕ) (f : File) → LawfulBytes plant name body f → parse_name name ≡ some f.name
+name-read : (plant : Option (List ℕ)) (name body : List ℕ) (f : File) → LawfulBytes plant name body f → parse_name name ≡ Some f.name
 name-read plant name body f m = (name-exactly name f.name).1 (m.name_bytes, (lawful-facts plant f m.fields).0.name)
 
 pub taken-exactly : TakenExactly
 unfolding take_file
 taken-exactly plant name body f = (
   λ e.
-      let s = passed (not (is_registration (parse_name name))) Cause.Name (read_file (some plant) name body) f e in
-      let m = (read-exactly (some plant) name body f).0 s.1 in
-      let p = name-read (some plant) name body f m in
+      let s = passed (not (is_registration (parse_name name))) Cause.Name (read_file (Some plant) name body) f e in
+      let m = (read-exactly (Some plant) name body f).0 s.1 in
+      let p = name-read (Some plant) name body f m in
       let q : not (not (is_schedule f.name.format)) ≡ true = rw p at s.0 in
       (m, sym (not-not (is_schedule f.name.format)) ∙ q),
   λ m.
-      let p = name-read (some plant) name body f m.0 in
-      rw (p, m.1) ((read-exactly (some plant) name body f).1 m.0),
+      let p = name-read (Some plant) name body f m.0 in
+      rw (p, m.1) ((read-exactly (Some plant) name body f).1 m.0),
 )

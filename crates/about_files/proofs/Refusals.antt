@@ -1,10 +1,11 @@
 -- The writer and the request give the lowest cause that applies, and write exactly when none does.
+use Rattle.laws.proofs.Options.{some-ne-none}
+use Rattle.std.specs.Prelude.{Option, None, Some}
 use Prim.Native.Nat.{ℕ}
 use mathlib.Core.Path.{◌≡◌, ◌∙◌, refl, sym, ap}
 use mathlib.Core.Bool.{Bool, true, false, cond, not, ◌&&◌, ◌||◌, not-not}
 use mathlib.Core.List.{List, [], ◌∷◌}
 use mathlib.Core.Logic.{◌↔◌}
-use mathlib.Core.Option.{Option, none, some, some-ne-none}
 use lib.Dec.{leb, eqb}
 use lib.ListN.{length}
 use Rattle.rules.specs.Digits.{digits, all_at_most}
@@ -32,8 +33,8 @@ judged [] b = bytes b
 judged (r ∷ rs) b = need (not r.applies) (refuse r.cause) (judged rs b)
 
 abbrev cause_of : Output → Option Cause
-cause_of (refuse c) = some c
-cause_of (bytes b) = none
+cause_of (refuse c) = Some c
+cause_of (bytes b) = None
 
 judged-first : (rows : List Row) (b : List ℕ) → judged rows b ≡ answer_by refuse (bytes b) (first_of rows)
 unfolding first_of
@@ -41,7 +42,7 @@ judged-first [] b = refl
 judged-first (r ∷ rs) b = go r.applies (judged-first rs b)
   where
     go : (t : Bool) → judged rs b ≡ answer_by refuse (bytes b) (first_of rs)
-        → need (not t) (refuse r.cause) (judged rs b) ≡ answer_by refuse (bytes b) (cond t (some r.cause) (first_of rs))
+        → need (not t) (refuse r.cause) (judged rs b) ≡ answer_by refuse (bytes b) (cond t (Some r.cause) (first_of rs))
     go true e = refl
     go false e = e
 
@@ -54,8 +55,8 @@ module _ (rows : List Row) (b : List ℕ) where
     where
       go : (o : Option Cause) → (answer_by refuse (bytes b) o ≡ bytes b) ↔ ((c : Cause) → applies_in rows c ≡ false)
           → (answer_by refuse (bytes b) o ≡ bytes d) ↔ (((c : Cause) → applies_in rows c ≡ false) × (d ≡ b))
-      go none i = (λ e. let same : d ≡ b = cc in (i.0 refl, same), λ h. ap bytes (sym h.1))
-      go (some c) i = (λ e. absurd (some-ne-none c (ap cause_of e)), λ h. absurd (some-ne-none c (ap cause_of (i.1 h.0))))
+      go None i = (λ e. let same : d ≡ b = cc in (i.0 refl, same), λ h. ap bytes (sym h.1))
+      go (Some c) i = (λ e. absurd (some-ne-none c (ap cause_of e)), λ h. absurd (some-ne-none c (ap cause_of (i.1 h.0))))
 
 -- ---- laws of the tests
 pub room-is : (b : List ℕ) (room : ℕ) → not (room_breaks b room) ≡ leb (length b) room
@@ -116,12 +117,12 @@ module _ (w : Fields) (room : ℕ) where
     is202 : eqb w.format 202 ≡ y
     is203 : eqb w.format 203 ≡ z
 
-  number_is : (f : Format) → format_of w.format ≡ some f → Number (eqb (format_number f) 201) (eqb (format_number f) 202) (eqb (format_number f) 203)
+  number_is : (f : Format) → format_of w.format ≡ Some f → Number (eqb (format_number f) 201) (eqb (format_number f) 202) (eqb (format_number f) 203)
   number_is f e =
       let h = format-number w.format f e in
       record { is201 = ap (λ (n : ℕ). eqb n 201) h; is202 = ap (λ (n : ℕ). eqb n 202) h; is203 = ap (λ (n : ℕ). eqb n 203) h }
 
-  no_number : format_of w.format ≡ none → Number false false false
+  no_number : format_of w.format ≡ None → Number false false false
   unfolding format_of
   no_number e = go (eqb w.format 201) refl (eqb w.format 202) refl (eqb w.format 203) refl
     where
@@ -136,24 +137,24 @@ module _ (w : Fields) (room : ℕ) where
 
   rest-is : (o : Option Format) → format_of w.format ≡ o → rest ≡ write_as room w o
   unfolding digits_fit
-  rest-is none e = no-rest (no_number e)
-  rest-is (some F201) e =
+  rest-is None e = no-rest (no_number e)
+  rest-is (Some F201) e =
       let a = number_is F201 e in
       rest-with true (digits_fit F201 w) (months_fit 13 w) (simp (a.is201, a.is202, a.is203))
       (rw a.is203 (two_law (digits 10 w.schedule) (digits 12 w.start)))
       (simp (a.is201, a.is202, a.is203) (first-law (months_fit 13 w))) (ap (λ (o : Option Format). encode_body (schedule (records_for o w))) e)
-  rest-is (some F202) e =
+  rest-is (Some F202) e =
       let a = number_is F202 e in
       rest-with true (digits_fit F202 w) (months_fit 1 w) (simp (a.is201, a.is202, a.is203))
       (rw a.is203 (two_law (digits 10 w.schedule) (digits 12 w.start)))
       (simp (a.is201, a.is202, a.is203) (second-law (months_fit 1 w))) (ap (λ (o : Option Format). encode_body (schedule (records_for o w))) e)
-  rest-is (some F203) e =
+  rest-is (Some F203) e =
       let a = number_is F203 e in
       rest-with true (digits_fit F203 w) (update_dates (update_record w)) (simp (a.is201, a.is202, a.is203))
       (rw (a.is203, below-is 336 (length w.rates))
       (four_law (digits 10 w.schedule) (digits 12 w.start) (digits 14 w.next) (leb (length w.rates) 336)))
       (simp (a.is201, a.is202, a.is203) (not-not (update_dates (update_record w)))) (ap (λ (o : Option Format). encode_body (schedule (records_for o w))) e)
-  rest-is (some F301) e = no-rest (number_is F301 e)
+  rest-is (Some F301) e = no-rest (number_is F301 e)
 
   pub write-judged : write_body w room ≡ judged (writer_rows w room) (body_for w)
   unfolding write_body writer_rows

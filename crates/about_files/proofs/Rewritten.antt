@@ -1,9 +1,9 @@
 -- A body whose records share a schedule ID, read and written, is itself.
+use Rattle.std.specs.Prelude.{Some}
 use Prim.Native.Nat.{ℕ, suc, ◌+◌, ◌-◌, ◌≤◌}
 use mathlib.Core.Path.{◌≡◌, ◌∙◌, refl, sym, ap, ap₂}
 use mathlib.Core.Bool.{Bool, true, false, ◌&&◌, ◌||◌, false≢true, or-true}
 use mathlib.Core.List.{List, [], ◌∷◌, ◌++◌, append-nil}
-use mathlib.Core.Option.{some}
 use native.Mathlib.Omega.{arith}
 use lib.Dec.{leb, eqb}
 use lib.ListN.{length, get_or, length-append}
@@ -284,7 +284,7 @@ module _ (name body : List ℕ) (f : File) (rs : List Record) (room : ℕ) where
       ap (λ (q : List Record). encode_body (schedule q)) x.1 ∙ ap encode_body (sym b) ∙ sym m.body_bytes in
       facts-written (fields_of fmt rs) room fmt (number rs) x.0 (rw e h) ∙ ap bytes e
     where
-      number : (rs : List Record) → format_of (fields_of fmt rs).format ≡ some fmt
+      number : (rs : List Record) → format_of (fields_of fmt rs).format ≡ Some fmt
       number [] = format_back fmt
       number (r ∷ rs) = format_back fmt
 

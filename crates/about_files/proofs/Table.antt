@@ -1,11 +1,12 @@
 -- The first row that applies is the lowest: `first-lowest` and `first-none`, of any rows whose places rise.
+use Rattle.laws.proofs.Options.{some-injective, none-ne-some, some-ne-none}
+use Rattle.std.specs.Prelude.{Option, None, Some}
 use Prim.Native.Nat.{ℕ, suc, ◌<◌}
 use mathlib.Core.Path.{◌≡◌, ◌∙◌, refl, sym, ap, subst}
 use mathlib.Core.Bool.{Bool, true, false, cond, ◌&&◌, ◌||◌, false≢true}
 use mathlib.Core.List.{List, [], ◌∷◌, ◌++◌}
 use mathlib.Core.Logic.Iff
 use mathlib.Core.Logic.{◌↔◌}
-use mathlib.Core.Option.{Option, none, some, some-injective, none-ne-some, some-ne-none}
 use native.Mathlib.Omega.{arith}
 use lib.Dec.{leb, ltb}
 use borrow.Author.Tests.{leb-true, ltb-true, ltb-false, eqb-true, eq-eqb}
@@ -39,13 +40,13 @@ is_other c d l = go (is_cause c d) refl
 
 -- ---- none applies
 
-pub first-none : (rows : List Row) → (first_of rows ≡ none) ↔ ((c : Cause) → applies_in rows c ≡ false)
+pub first-none : (rows : List Row) → (first_of rows ≡ None) ↔ ((c : Cause) → applies_in rows c ≡ false)
 unfolding first_of applies_in
 first-none [] = (λ e c. refl, λ h. refl)
 first-none (r ∷ rs) = go r.applies (first-none rs)
   where
-    go : (t : Bool) → (first_of rs ≡ none) ↔ ((c : Cause) → applies_in rs c ≡ false)
-        → (cond t (some r.cause) (first_of rs) ≡ none) ↔ ((c : Cause) → (t && is_cause r.cause c || applies_in rs c) ≡ false)
+    go : (t : Bool) → (first_of rs ≡ None) ↔ ((c : Cause) → applies_in rs c ≡ false)
+        → (cond t (Some r.cause) (first_of rs) ≡ None) ↔ ((c : Cause) → (t && is_cause r.cause c || applies_in rs c) ≡ false)
     go true i =
         (λ e. absurd (some-ne-none r.cause e), λ h. absurd (false≢true (sym (neither _ _ (h r.cause)).0 ∙ is_itself r.cause)))
     go false i = i
@@ -97,7 +98,7 @@ module _ (r : Row) (rs : List Row) (rise : rising_from (suc (place_of r.cause)) 
     λ h. record { holds = passed p c ∙ h.holds; least = λ d l. passed p d ∙ h.least d l },
   )
 
-first-from : (k : ℕ) (rows : List Row) → rising_from k rows ≡ true → (c : Cause) → (first_of rows ≡ some c) ↔ Lowest rows c
+first-from : (k : ℕ) (rows : List Row) → rising_from k rows ≡ true → (c : Cause) → (first_of rows ≡ Some c) ↔ Lowest rows c
 unfolding first_of applies_in
 first-from k [] rise c = (λ e. absurd (none-ne-some c e), λ h. absurd (false≢true h.holds))
 first-from k (r ∷ rs) rise c = go r.applies refl (first-from (suc (place_of r.cause)) rs more c)
@@ -105,35 +106,35 @@ first-from k (r ∷ rs) rise c = go r.applies refl (first-from (suc (place_of r.
     more : rising_from (suc (place_of r.cause)) rs ≡ true
     more = (both (leb k (place_of r.cause)) (rising_from (suc (place_of r.cause)) rs) rise).1
 
-    go : (t : Bool) → r.applies ≡ t → (first_of rs ≡ some c) ↔ Lowest rs c
-        → (cond t (some r.cause) (first_of rs) ≡ some c) ↔ Lowest (r ∷ rs) c
+    go : (t : Bool) → r.applies ≡ t → (first_of rs ≡ Some c) ↔ Lowest rs c
+        → (cond t (Some r.cause) (first_of rs) ≡ Some c) ↔ Lowest (r ∷ rs) c
     go true p i =
-        (λ e. subst (Lowest (r ∷ rs)) (some-injective r.cause c e) (given r rs more p), λ h. ap some (only r rs more p c h))
+        (λ e. subst (Lowest (r ∷ rs)) (some-injective r.cause c e) (given r rs more p), λ h. ap Some (only r rs more p c h))
     go false p i = Iff.trans i (Iff.symm (same-lowest r rs more p c))
 
 -- the first row that applies is the lowest one
-pub first-lowest : (rows : List Row) → rising rows ≡ true → (c : Cause) → (first_of rows ≡ some c) ↔ Lowest rows c
+pub first-lowest : (rows : List Row) → rising rows ≡ true → (c : Cause) → (first_of rows ≡ Some c) ↔ Lowest rows c
 first-lowest rows rise c = first-from 0 rows rise c
 
 -- ---- rows that others follow
 
-pub first-before : (rows more : List Row) (c : Cause) → first_of rows ≡ some c → first_of (rows ++ more) ≡ some c
+pub first-before : (rows more : List Row) (c : Cause) → first_of rows ≡ Some c → first_of (rows ++ more) ≡ Some c
 unfolding first_of
 first-before [] more c e = absurd (none-ne-some c e)
 first-before (r ∷ rs) more c e = go r.applies e (first-before rs more c)
   where
-    go : (t : Bool) → cond t (some r.cause) (first_of rs) ≡ some c → (first_of rs ≡ some c → first_of (rs ++ more) ≡ some c)
-        → cond t (some r.cause) (first_of (rs ++ more)) ≡ some c
+    go : (t : Bool) → cond t (Some r.cause) (first_of rs) ≡ Some c → (first_of rs ≡ Some c → first_of (rs ++ more) ≡ Some c)
+        → cond t (Some r.cause) (first_of (rs ++ more)) ≡ Some c
     go true p next = p
     go false p next = next p
 
-pub first-after : (rows more : List Row) → first_of rows ≡ none → first_of (rows ++ more) ≡ first_of more
+pub first-after : (rows more : List Row) → first_of rows ≡ None → first_of (rows ++ more) ≡ first_of more
 unfolding first_of
 first-after [] more e = refl
 first-after (r ∷ rs) more e = go r.applies e (first-after rs more)
   where
-    go : (t : Bool) → cond t (some r.cause) (first_of rs) ≡ none → (first_of rs ≡ none → first_of (rs ++ more) ≡ first_of more)
-        → cond t (some r.cause) (first_of (rs ++ more)) ≡ first_of more
+    go : (t : Bool) → cond t (Some r.cause) (first_of rs) ≡ None → (first_of rs ≡ None → first_of (rs ++ more) ≡ first_of more)
+        → cond t (Some r.cause) (first_of (rs ++ more)) ≡ first_of more
     go true p next = absurd (some-ne-none r.cause p)
     go false p next = next p
 
@@ -141,15 +142,15 @@ first-after (r ∷ rs) more e = go r.applies e (first-after rs more)
 
 -- the refusal with the cause, where there is one
 abbrev pub answer_by : {A : Type 0} → (Cause → A) → A → Option Cause → A
-answer_by refusal answer none = answer
-answer_by refusal answer (some c) = refusal c
+answer_by refusal answer None = answer
+answer_by refusal answer (Some c) = refusal c
 
 -- `cause_of` tells the refusals from the answer, and one from another
 module _ {A : Type 0} (refusal : Cause → A) (answer : A) (cause_of : A → Option Cause)
-    (Some-of : (c : Cause) → cause_of (refusal c) ≡ some c) (none_of : cause_of answer ≡ none) where
+    (Some-of : (c : Cause) → cause_of (refusal c) ≡ Some c) (none_of : cause_of answer ≡ None) where
   cause-is : (o : Option Cause) → cause_of (answer_by refusal answer o) ≡ o
-  cause-is none = none_of
-  cause-is (some c) = Some-of c
+  cause-is None = none_of
+  cause-is (Some c) = Some-of c
 
   pub answer-refuses : (rows : List Row) → rising rows ≡ true → (c : Cause) → (answer_by refusal answer (first_of rows) ≡ refusal c) ↔ Lowest rows c
   answer-refuses rows rise c =

@@ -1,9 +1,9 @@
 -- What the writer writes is a lawful file, reads back as that file, and has the fields that it was written from.
+use Rattle.std.specs.Prelude.{Option, None, Some}
 use Prim.Native.Nat.{ℕ, suc, ◌+◌, ◌-◌, ◌≤◌}
 use mathlib.Core.Path.{◌≡◌, ◌∙◌, refl, sym, ap}
 use mathlib.Core.Bool.{Bool, true, false, ◌&&◌, ◌||◌, false≢true, or-false}
 use mathlib.Core.List.{List, [], ◌∷◌, append-nil}
-use mathlib.Core.Option.{Option, none, some}
 use native.Mathlib.Omega.{arith}
 use lib.Dec.{leb, eqb, lit≤}
 use lib.ListN.{length}
@@ -50,7 +50,7 @@ passed : (t : Bool) (c : Cause) (o : Output) (b : List ℕ) → need t (refuse c
 passed true c o b e = (refl, e)
 passed false c o b e = no_bytes e
 
-module _ (w : Fields) (room : ℕ) (f : Format) (g : format_of w.format ≡ some f) where
+module _ (w : Fields) (room : ℕ) (f : Format) (g : format_of w.format ≡ Some f) where
   abbrev body : List ℕ
   body = encode_body (schedule (field_records f w))
 
@@ -172,7 +172,7 @@ checksum-fits start rates d e =
     let a₁ = a.1 in
     checksum-back start rates (omega arith) (omega arith)
 
-module _ (w : Fields) (n : format_of w.format ≡ some F203) (a : Fit F203 w) where
+module _ (w : Fields) (n : format_of w.format ≡ Some F203) (a : Fit F203 w) where
   small-flag : w.flag ≤ 9
   small-flag =
       let h : w.format ≡ 203 = format-number w.format F203 n in
@@ -211,7 +211,7 @@ module _ (w : Fields) (n : format_of w.format ≡ some F203) (a : Fit F203 w) wh
       }
 
 -- ---- every format
-pub fields-good : (f : Format) (w : Fields) → format_of w.format ≡ some f → Fit f w → Good f w (field_records f w)
+pub fields-good : (f : Format) (w : Fields) → format_of w.format ≡ Some f → Fit f w → Good f w (field_records f w)
 unfolding field_records
 fields-good F201 w e a =
     months-good F201 w 12 a a.dates refl refl (lit≤ tt) refl (λ q. let z : ◌≡◌ {A = ℕ} 0 1 = cc in omega arith)
@@ -259,9 +259,9 @@ written-reads w room b f n e q h =
     let g = fields-good f w q a in
     let id : plant_id n.plant ≡ true = ap plant_id h.plant ∙ a.plant in
     record {
-      fields = file-lawful f w n a g h none id;
+      fields = file-lawful f w n a g h None id;
       body_bytes = p.1;
-      read = file-read f w n a g h none b id p.1;
-      read_with_plant = file-read f w n a g h (some w.plant) b (equal-same h.plant) p.1;
+      read = file-read f w n a g h None b id p.1;
+      read_with_plant = file-read f w n a g h (Some w.plant) b (equal-same h.plant) p.1;
       carried = g.carried;
     }

@@ -1,7 +1,6 @@
 -- Reading's refusals: a name and body are refused with the lowest row of 01's table that applies, and read exactly where none does.
 -- Proved in proofs/ReadRefusals.antt: `read-refuses`, `read-accepts`, `take-refuses` and `take-accepts`.
-use Rattle.std.specs.Prelude.{ℕ, ◌≡◌, false, List, ◌↔◌}
-use Rattle.std.proofs.Math.Option.{Option, some}
+use Rattle.std.specs.Prelude.{ℕ, ◌≡◌, false, List, ◌↔◌, Option, Some}
 use Rattle.rules.specs.Name.{parse_name}
 use Rattle.rules.specs.Body.{parse_body}
 use Rattle.rules.specs.File.{File, refuse, file, read_file, take_file}
@@ -11,8 +10,8 @@ use Rattle.rules.specs.declared.Cause.{Cause}
 
 -- f is what name and body parse as
 pub record Parsed (name body : List ℕ) (f : File) : Type 0 where
-  pub name_is : parse_name name ≡ some f.name
-  pub body_is : parse_body f.name.format body ≡ some f.body
+  pub name_is : parse_name name ≡ Some f.name
+  pub body_is : parse_body f.name.format body ≡ Some f.body
 
 abbrev pub ReadRefuses : Type 0
 ReadRefuses =

@@ -1,7 +1,6 @@
 -- Reading is exact: a name and body are accepted exactly when they are the bytes of a lawful file.
 -- Each statement is proved under its own name in small letters: `ReadExactly` is `read-exactly` of proofs/Reading.antt, the parts are in Name and Body.
-use Rattle.std.specs.Prelude.{ℕ, ◌≡◌, Bool, true, false, List, ◌↔◌, length}
-use Rattle.std.proofs.Math.Option.{Option, none, some}
+use Rattle.std.specs.Prelude.{ℕ, ◌≡◌, Bool, true, false, List, ◌↔◌, length, Option, None, Some}
 use Rattle.rules.specs.Plant.{plant_id}
 use Rattle.rules.specs.Name.{Name, parse_name, encode_name, lawful_name}
 use Rattle.rules.specs.Body.{Record, Body, parse_records, parse_body, encode_records, encode_body, form_of_record, form_of_body, every, is_schedule}
@@ -12,17 +11,17 @@ use Rattle.rules.specs.declared.Format.{Format}
 
 -- a name is read as n exactly when it is the bytes of n, and n's fields are lawful
 abbrev pub NameExactly : Type 0
-NameExactly = (s : List ℕ) (n : Name) → (parse_name s ≡ some n) ↔ ((s ≡ encode_name n) × (lawful_name n ≡ true))
+NameExactly = (s : List ℕ) (n : Name) → (parse_name s ≡ Some n) ↔ ((s ≡ encode_name n) × (lawful_name n ≡ true))
 
 -- k records are read as rs exactly when the bytes are those of rs, and nothing more, and each record of rs has its form
 abbrev pub RecordsExactly : Type 0
 RecordsExactly =
     (f : Format) (k : ℕ) (s : List ℕ) (rs : List Record)
-    → (parse_records f k s ≡ some rs) ↔ ((s ≡ encode_records rs) × (length rs ≡ k) × (every (form_of_record f) rs ≡ true))
+    → (parse_records f k s ≡ Some rs) ↔ ((s ≡ encode_records rs) × (length rs ≡ k) × (every (form_of_record f) rs ≡ true))
 
 -- a body is read as b exactly when it is the bytes of b, and b has the format's form
 abbrev pub BodyExactly : Type 0
-BodyExactly = (f : Format) (s : List ℕ) (b : Body) → (parse_body f s ≡ some b) ↔ ((s ≡ encode_body b) × (form_of_body f b ≡ true))
+BodyExactly = (f : Format) (s : List ℕ) (b : Body) → (parse_body f s ≡ Some b) ↔ ((s ≡ encode_body b) × (form_of_body f b ≡ true))
 
 -- ---- the whole
 
@@ -75,14 +74,14 @@ pub record FileBytes (name body : List ℕ) (f : File) : Type 0 where
 
 -- without a plant, the name's ID has its check digit
 abbrev pub ReadWithoutPlant : Type 0
-ReadWithoutPlant = (name body : List ℕ) (f : File) → (read_file none name body ≡ file f) ↔ (FileBytes name body f × (plant_id f.name.plant ≡ true))
+ReadWithoutPlant = (name body : List ℕ) (f : File) → (read_file None name body ≡ file f) ↔ (FileBytes name body f × (plant_id f.name.plant ≡ true))
 
 -- with a plant, the name's ID is the plant's
 abbrev pub ReadWithPlant : Type 0
-ReadWithPlant = (plant name body : List ℕ) (f : File) → (read_file (some plant) name body ≡ file f) ↔ (FileBytes name body f × (f.name.plant ≡ plant))
+ReadWithPlant = (plant name body : List ℕ) (f : File) → (read_file (Some plant) name body ≡ file f) ↔ (FileBytes name body f × (f.name.plant ≡ plant))
 
 -- a unit takes what reads well with its plant, except 301
 abbrev pub TakenExactly : Type 0
 TakenExactly =
     (plant name body : List ℕ) (f : File)
-    → (take_file plant name body ≡ file f) ↔ (LawfulBytes (some plant) name body f × (is_schedule f.name.format ≡ true))
+    → (take_file plant name body ≡ file f) ↔ (LawfulBytes (Some plant) name body f × (is_schedule f.name.format ≡ true))

@@ -1,7 +1,6 @@
 -- The writer and the reader are inverse to each other: what is written reads back, and what was read is written as it was.
 -- Proved: `written-reads` in proofs/Written.antt, `name-exists` and `written-length` in Named, `read-written` and `read-written-with-plant` in Rewritten.
-use Rattle.std.specs.Prelude.{ℕ, ◌+◌, ◌*◌, ◌/◌, ◌%◌, ◌≤◌, ◌≡◌, Bool, true, List, [], ◌∷◌, ◌++◌, length, get_or}
-use Rattle.std.proofs.Math.Option.{none, some}
+use Rattle.std.specs.Prelude.{ℕ, ◌+◌, ◌*◌, ◌/◌, ◌%◌, ◌≤◌, ◌≡◌, Bool, true, List, [], ◌∷◌, ◌++◌, length, get_or, None, Some}
 use Rattle.rules.specs.Digits.{digits, decimal, same_bytes}
 use Rattle.rules.specs.Calendar.{exists, month_at}
 use Rattle.rules.specs.Plant.{plant_id}
@@ -55,17 +54,17 @@ abbrev pub file_for : Format → Fields → Name → File
 file_for f w n = record { name = n; body = schedule (field_records f w) }
 
 pub record ReadsBack (f : Format) (w : Fields) (n : Name) (b : List ℕ) : Type 0 where
-  pub fields : lawful none (file_for f w n) ≡ true
+  pub fields : lawful None (file_for f w n) ≡ true
   pub body_bytes : b ≡ encode_body (schedule (field_records f w))
-  pub read : read_file none (encode_name n) b ≡ file (file_for f w n)
-  pub read_with_plant : read_file (some w.plant) (encode_name n) b ≡ file (file_for f w n)
+  pub read : read_file None (encode_name n) b ≡ file (file_for f w n)
+  pub read_with_plant : read_file (Some w.plant) (encode_name n) b ≡ file (file_for f w n)
   pub carried : Carries f w (field_records f w)
 
 -- what the writer writes, with any such name, is a lawful file, reads as that file, and has the fields that it was written from
 abbrev pub WrittenReads : Type 0
 WrittenReads =
     (w : Fields) (room : ℕ) (b : List ℕ) (f : Format) (n : Name)
-    → write_body w room ≡ bytes b → format_of w.format ≡ some f → NameFor f w n → ReadsBack f w n b
+    → write_body w room ≡ bytes b → format_of w.format ≡ Some f → NameFor f w n → ReadsBack f w n b
 
 -- for every body that is written and every creation time there is such a name: 999 and any digit, YYMM of the start, 0000
 abbrev pub segment_for : Format → ℕ → Fields → List ℕ
@@ -80,14 +79,14 @@ name_for f digit created w = record { format = f; segment = segment_for f digit 
 abbrev pub NameExists : Type 0
 NameExists =
     (w : Fields) (room : ℕ) (b : List ℕ) (f : Format) (digit : ℕ) (created : List ℕ)
-    → write_body w room ≡ bytes b → format_of w.format ≡ some f → digit ≤ 9 → digits 14 created ≡ true → exists created ≡ true
+    → write_body w room ≡ bytes b → format_of w.format ≡ Some f → digit ≤ 9 → digits 14 created ≡ true → exists created ≡ true
     → NameFor f w (name_for f digit created w)
 
 -- how long what is written is: the count, each record's digits, the rates
 abbrev pub WrittenLength : Type 0
 WrittenLength =
     (w : Fields) (room : ℕ) (b : List ℕ) (f : Format)
-    → write_body w room ≡ bytes b → format_of w.format ≡ some f → length b ≡ 6 + count_of f * (53 + tail_digits f) + length w.rates
+    → write_body w room ≡ bytes b → format_of w.format ≡ Some f → length b ≡ 6 + count_of f * (53 + tail_digits f) + length w.rates
 
 -- ---- read, then written
 
@@ -108,12 +107,12 @@ fields_of f (r ∷ rs) = record {
 abbrev pub ReadWritten : Type 0
 ReadWritten =
     (name body : List ℕ) (f : File) (rs : List Record) (room : ℕ)
-    → read_file none name body ≡ file f → f.body ≡ schedule rs → shared_schedule rs ≡ true → length body ≤ room
+    → read_file None name body ≡ file f → f.body ≡ schedule rs → shared_schedule rs ≡ true → length body ≤ room
     → write_body (fields_of f.name.format rs) room ≡ bytes body
 
 -- and with a plant whose ID is one
 abbrev pub ReadWrittenWithPlant : Type 0
 ReadWrittenWithPlant =
     (plant name body : List ℕ) (f : File) (rs : List Record) (room : ℕ)
-    → plant_id plant ≡ true → read_file (some plant) name body ≡ file f → f.body ≡ schedule rs → shared_schedule rs ≡ true → length body ≤ room
+    → plant_id plant ≡ true → read_file (Some plant) name body ≡ file f → f.body ≡ schedule rs → shared_schedule rs ≡ true → length body ≤ room
     → write_body (fields_of f.name.format rs) room ≡ bytes body

@@ -1,9 +1,10 @@
 -- What bytes begin with: what begins with p is p and what follows it, and what `strip` takes off is there.
+use Rattle.laws.proofs.Options.{some-injective}
+use Rattle.std.specs.Prelude.{Option, None, Some}
 use Prim.Native.Nat.{ℕ, ◌≤◌, ◌<◌}
 use mathlib.Core.Path.{◌≡◌, ◌∙◌, refl, sym, ap}
 use mathlib.Core.Bool.{Bool, true, false, cond, ◌&&◌, and_assoc}
 use mathlib.Core.List.{List, [], ◌∷◌, ◌++◌}
-use mathlib.Core.Option.{Option, none, some, some-injective}
 use native.Mathlib.Omega.{arith}
 use lib.Dec.{eqb}
 use lib.ListN.{length, take, drop, length-append, take-append-drop}
@@ -39,14 +40,14 @@ begins-parts (x ∷ p) q (y ∷ s) = rw (begins-parts p q s) (sym (and_assoc (eq
 
 -- ---- what is taken off
 
-pub strip-made : (p s t : List ℕ) → strip p s ≡ some t → s ≡ p ++ t
+pub strip-made : (p s t : List ℕ) → strip p s ≡ Some t → s ≡ p ++ t
 unfolding strip
 strip-made p s t e = go (begins p s) refl e
   where
-    go : (c : Bool) → begins p s ≡ c → cond {A = Option (List ℕ)} c (some (drop (length p) s)) none ≡ some t → s ≡ p ++ t
+    go : (c : Bool) → begins p s ≡ c → cond {A = Option (List ℕ)} c (Some (drop (length p) s)) None ≡ Some t → s ≡ p ++ t
     go true f g = begins-made p s f ∙ ap (λ (l : List ℕ). p ++ l) (some-injective (drop (length p) s) t g)
     go false f g = no-some g
 
-pub strip-back : (p t : List ℕ) → strip p (p ++ t) ≡ some t
+pub strip-back : (p t : List ℕ) → strip p (p ++ t) ≡ Some t
 unfolding strip
 strip-back p t = rw (begins-itself p t, drop-append_seam p t) refl

@@ -1,9 +1,9 @@
 -- Every lawful schedule file is carried: the response with the two header lines that it must have.
+use Rattle.std.specs.Prelude.{Option, Some}
 use Prim.Native.Nat.{ℕ, ◌^◌, ◌<◌}
 use mathlib.Core.Path.{◌≡◌, ◌∙◌, refl, sym, ap, subst}
 use mathlib.Core.Bool.{true, false}
 use mathlib.Core.List.{List, [], ◌∷◌, ◌++◌, append-nil}
-use mathlib.Core.Option.{Option, some}
 use lib.ListN.{length, length-map}
 use borrow.Author.Tests.{eq-eqb}
 use Rattle.rules.specs.Digits.{decimal, to_ascii, same_bytes}
@@ -24,7 +24,7 @@ use Rattle.about_responses.proofs.Sizes.{body-small}
 -- ---- the two lines
 
 -- six digits of a number below 1,000,000 give it as the length
-length-said : (n : ℕ) → n < 10 ^ 6 → length_in (to_ascii (decimal 6 n)) ≡ some n
+length-said : (n : ℕ) → n < 10 ^ 6 → length_in (to_ascii (decimal 6 n)) ≡ Some n
 unfolding length_in
 length-said n h =
     let l : length (to_ascii (decimal 6 n)) ≡ 6 = length-map (decimal 6 n) _ ∙ length-decimal 6 n in
@@ -41,11 +41,11 @@ module _ (n : ℕ) (name : List ℕ) where
   two_lines = length_line ∷ name_line ∷ []
 
   -- each of the two beginnings is that of one line alone, and no `filename=` stands before the name's: found by computing
-  lines-length : n < 10 ^ 6 → given_length two_lines ≡ some n
+  lines-length : n < 10 ^ 6 → given_length two_lines ≡ Some n
   unfolding lines_with begins same_bytes
   lines-length h = length-said n h
 
-  lines-name : given_name two_lines ≡ some name
+  lines-name : given_name two_lines ≡ Some name
   unfolding lines_with begins behind same_bytes
   lines-name = refl
 

@@ -1,10 +1,11 @@
 -- The length and the name that header lines give are those of the lines put together: of one line that begins so, and what follows in it.
+use Rattle.laws.proofs.Options.{some-injective}
+use Rattle.std.specs.Prelude.{Option, None, Some}
 use Prim.Native.Nat.{ℕ, zero, suc, ◌<◌}
 use mathlib.Core.Path.{◌≡◌, ◌∙◌, refl, sym, ap, subst}
 use mathlib.Core.Bool.{Bool, true, false, cond, not, ◌&&◌}
 use mathlib.Core.List.{List, [], ◌∷◌, ◌++◌, append-nil}
 use mathlib.Core.Logic.{◌↔◌}
-use mathlib.Core.Option.{Option, none, some, some-injective}
 use native.Mathlib.Omega.{arith}
 use borrow.Author.Tests.{leb-true, le-leb, not-true}
 use lib.Dec.{leb}
@@ -97,12 +98,12 @@ module _ (p : List ℕ) where
 
 module _ (ls : List (List ℕ)) (m : ℕ) where
   -- the digits that stand in the text
-  text_says : (text : List ℕ) → OnlyLine content_length text ls → length_in text ≡ some m → LengthLine ls m
+  text_says : (text : List ℕ) → OnlyLine content_length text ls → length_in text ≡ Some m → LengthLine ls m
   unfolding length_in
   text_says text o e = go (leb 1 (length text) && leb (length text) 6 && all_ascii text) refl e
     where
       go : (t : Bool) → (leb 1 (length text) && leb (length text) 6 && all_ascii text) ≡ t
-          → cond {A = Option ℕ} t (some (value (from_ascii text))) none ≡ some m → LengthLine ls m
+          → cond {A = Option ℕ} t (Some (value (from_ascii text))) None ≡ Some m → LengthLine ls m
       go false f e = no-some e
       go true f e =
           let p = both (leb 1 (length text) && leb (length text) 6) (all_ascii text) f in
@@ -117,14 +118,14 @@ module _ (ls : List (List ℕ)) (m : ℕ) where
             says = some-injective (value (from_ascii text)) m e;
           }
 
-  length-there : (w : List (List ℕ)) → lines_with content_length ls ≡ w → only_length w ≡ some m → LengthLine ls m
+  length-there : (w : List (List ℕ)) → lines_with content_length ls ≡ w → only_length w ≡ Some m → LengthLine ls m
   length-there [] f e = no-some e
   length-there (l ∷ []) f e =
       let o = (only-exactly content_length ls l).0 f in
       text_says o.0 o.2 (sym (ap length_in (ap (drop (length content_length)) o.1)) ∙ e)
   length-there (l ∷ k ∷ w) f e = no-some e
 
-  length_back : LengthLine ls m → given_length ls ≡ some m
+  length_back : LengthLine ls m → given_length ls ≡ Some m
   unfolding length_in
   length_back h =
       let d = to_ascii h.number in
@@ -144,13 +145,13 @@ record Found (p s rest : List ℕ) : Type 0 where
   made : s ≡ front ++ (p ++ rest)
   first : (k : ℕ) → k < length front → begins p (drop k (front ++ (p ++ rest))) ≡ false
 
-behind-there : (p s rest : List ℕ) → behind p s ≡ some rest → Found p s rest
+behind-there : (p s rest : List ℕ) → behind p s ≡ Some rest → Found p s rest
 unfolding behind
 behind-there p [] rest e = no-some e
 behind-there p (x ∷ s) rest e = go (begins p (x ∷ s)) refl (λ f. behind-there p s rest f) e
   where
-    go : (t : Bool) → begins p (x ∷ s) ≡ t → (behind p s ≡ some rest → Found p s rest)
-        → cond {A = Option (List ℕ)} t (some (drop (length p) (x ∷ s))) (behind p s) ≡ some rest → Found p (x ∷ s) rest
+    go : (t : Bool) → begins p (x ∷ s) ≡ t → (behind p s ≡ Some rest → Found p s rest)
+        → cond {A = Option (List ℕ)} t (Some (drop (length p) (x ∷ s))) (behind p s) ≡ Some rest → Found p (x ∷ s) rest
     go true f ih e =
         let r = some-injective (drop (length p) (x ∷ s)) rest e in
         record { front = []; made = begins-made p (x ∷ s) f ∙ ap (λ (t : List ℕ). p ++ t) r; first = λ k h. absurd (omega arith) }
@@ -164,7 +165,7 @@ behind-there p (x ∷ s) rest e = go (begins p (x ∷ s)) refl (λ f. behind-the
 
 behind-back : (x : ℕ) (p front rest : List ℕ)
     → ((k : ℕ) → k < length front → begins (x ∷ p) (drop k (front ++ (x ∷ p ++ rest))) ≡ false)
-    → behind (x ∷ p) (front ++ (x ∷ p ++ rest)) ≡ some rest
+    → behind (x ∷ p) (front ++ (x ∷ p ++ rest)) ≡ Some rest
 unfolding behind
 behind-back x p [] rest h = rw (begins-itself (x ∷ p) rest, drop-append_seam (x ∷ p) rest) refl
 behind-back x p (y ∷ front) rest h =
@@ -172,7 +173,7 @@ behind-back x p (y ∷ front) rest h =
     rw n (behind-back x p front rest (λ k l. h (suc k) (omega (arith, l))))
 
 -- what follows the first p is what was put behind it, p not empty
-behind-exactly : (x : ℕ) (p s rest : List ℕ) → (behind (x ∷ p) s ≡ some rest) ↔ Found (x ∷ p) s rest
+behind-exactly : (x : ℕ) (p s rest : List ℕ) → (behind (x ∷ p) s ≡ Some rest) ↔ Found (x ∷ p) s rest
 behind-exactly x p s rest = (
   behind-there (x ∷ p) s rest,
   λ r. ap (behind (x ∷ p)) r.made ∙ behind-back x p r.front rest r.first,
@@ -183,11 +184,11 @@ past_label : (text : List ℕ) → behind file_name (content_disposition ++ text
 unfolding behind begins same_bytes
 past_label text = refl
 
-abbrev name-behind : (s n : List ℕ) → (behind file_name s ≡ some n) ↔ Found file_name s n
+abbrev name-behind : (s n : List ℕ) → (behind file_name s ≡ Some n) ↔ Found file_name s n
 name-behind = behind-exactly 102 (drop 1 file_name)
 
 module _ (ls : List (List ℕ)) (n : List ℕ) where
-  name-there : (w : List (List ℕ)) → lines_with content_disposition ls ≡ w → only_name w ≡ some n → NameLine ls n
+  name-there : (w : List (List ℕ)) → lines_with content_disposition ls ≡ w → only_name w ≡ Some n → NameLine ls n
   name-there [] f e = no-some e
   name-there (l ∷ []) f e =
       let o = (only-exactly content_disposition ls l).0 f in
@@ -195,7 +196,7 @@ module _ (ls : List (List ℕ)) (n : List ℕ) where
       record { front = r.front; line = subst (λ (t : List ℕ). OnlyLine content_disposition t ls) r.made o.2; first = r.first }
   name-there (l ∷ k ∷ w) f e = no-some e
 
-  name_back : NameLine ls n → given_name ls ≡ some n
+  name_back : NameLine ls n → given_name ls ≡ Some n
   name_back h =
       let text = h.front ++ (file_name ++ n) in
       ap only_name ((only-exactly content_disposition ls (content_disposition ++ text)).1 (text, refl, h.line))

@@ -1,9 +1,10 @@
 -- A line is read exactly.
+use Rattle.laws.proofs.Options.{some-injective}
+use Rattle.std.specs.Prelude.{Option, None, Some}
 use Prim.Native.Nat.{ℕ}
 use mathlib.Core.Path.{◌≡◌, ◌∙◌, refl, ap, ap₂, subst}
 use mathlib.Core.Bool.{Bool, true, false, cond, not, false≢true, and-false}
 use mathlib.Core.List.{List, [], ◌∷◌, ◌++◌}
-use mathlib.Core.Option.{Option, none, some, some-injective}
 use borrow.Author.Tests.{eqb-true, not-true}
 use lib.Dec.{eqb}
 use lib.ListN.{drop}
@@ -12,7 +13,7 @@ use Rattle.laws.proofs.Tests.{no-some, both, join}
 
 -- ---- a line
 
-pub line-stops : (x : ℕ) (s : List ℕ) → pair_at (x ∷ s) ≡ true → line_of (x ∷ s) ≡ some ([], drop 1 s)
+pub line-stops : (x : ℕ) (s : List ℕ) → pair_at (x ∷ s) ≡ true → line_of (x ∷ s) ≡ Some ([], drop 1 s)
 unfolding line_of
 line-stops x s e = rw e refl
 
@@ -40,24 +41,24 @@ pair-before x s (y ∷ l) rest f e n =
 abbrev pub LineMade : List ℕ → List ℕ × List ℕ → Type 0
 LineMade s q = (s ≡ q.0 ++ (line_end ++ q.1)) × (no_pair q.0 ≡ true)
 
-pub line_made : (s : List ℕ) (q : List ℕ × List ℕ) → line_of s ≡ some q → LineMade s q
+pub line_made : (s : List ℕ) (q : List ℕ × List ℕ) → line_of s ≡ Some q → LineMade s q
 unfolding line_of
 line_made [] q e = no-some e
 line_made (x ∷ s) q e = go (pair_at (x ∷ s)) refl (λ r. line_made s r) e
   where
-    go : (t : Bool) → pair_at (x ∷ s) ≡ t → ((r : List ℕ × List ℕ) → line_of s ≡ some r → LineMade s r)
-        → cond {A = Option (List ℕ × List ℕ)} t (some ([], drop 1 s)) (before_byte x (line_of s)) ≡ some q → LineMade (x ∷ s) q
+    go : (t : Bool) → pair_at (x ∷ s) ≡ t → ((r : List ℕ × List ℕ) → line_of s ≡ Some r → LineMade s r)
+        → cond {A = Option (List ℕ × List ℕ)} t (Some ([], drop 1 s)) (before_byte x (line_of s)) ≡ Some q → LineMade (x ∷ s) q
     go true f ih g = subst (LineMade (x ∷ s)) (some-injective _ q g) (pair_made x s f, pair-none)
     go false f ih g = second (line_of s) refl g
       where
-        second : (o : Option (List ℕ × List ℕ)) → line_of s ≡ o → before_byte x o ≡ some q → LineMade (x ∷ s) q
-        second none h g = no-some g
-        second (some r) h g =
+        second : (o : Option (List ℕ × List ℕ)) → line_of s ≡ o → before_byte x o ≡ Some q → LineMade (x ∷ s) q
+        second None h g = no-some g
+        second (Some r) h g =
             let m = ih r h in
             subst (LineMade (x ∷ s)) (some-injective _ q g)
             (ap (λ (t : List ℕ). x ∷ t) m.0, pair-before x s r.0 r.1 f m.0 m.1)
 
-pub line-back : (l rest : List ℕ) → no_pair l ≡ true → line_of (l ++ (line_end ++ rest)) ≡ some (l, rest)
+pub line-back : (l rest : List ℕ) → no_pair l ≡ true → line_of (l ++ (line_end ++ rest)) ≡ Some (l, rest)
 unfolding no_pair
 line-back [] rest n = line-stops 13 (10 ∷ rest) refl
 line-back (x ∷ []) rest n = line-more x (13 ∷ 10 ∷ rest) (and-false (eqb x 13)) ∙ ap (before_byte x) (line-stops 13 (10 ∷ rest) refl)

@@ -1,9 +1,10 @@
 -- A response is refused with the lowest cause that applies; a file taken out of one is that of the name and file that it carries.
+use Rattle.laws.proofs.Options.{some-ne-none}
+use Rattle.std.specs.Prelude.{Option, None, Some}
 use Prim.Native.Nat.{ℕ}
 use mathlib.Core.Path.{◌≡◌, ◌∙◌, refl, sym, ap}
 use mathlib.Core.Bool.{true, false}
 use mathlib.Core.List.{List, ◌∷◌}
-use mathlib.Core.Option.{Option, none, some, some-ne-none}
 use Rattle.rules.specs.File.{File, file, take_file}
 use Rattle.rules.specs.Response.{parse_response, take_parsed, take_response}
 use Rattle.rules.specs.Table.{row, first_of, applies_in}
@@ -19,8 +20,8 @@ use Rattle.about_responses.specs.Refusals.{CarriedFile, ResponseRefuses, Respons
 parsed-first : (plant : List ℕ) (o : Option (List ℕ × List ℕ))
     → cause_of (take_parsed plant o) ≡ first_of (row Cause.Response (formless o) ∷ carried_rows plant o)
 unfolding first_of
-parsed-first plant none = refl
-parsed-first plant (some q) = take-first plant q.0 q.1
+parsed-first plant None = refl
+parsed-first plant (Some q) = take-first plant q.0 q.1
 
 pub response-first : (plant boundary s : List ℕ) → cause_of (take_response plant boundary s) ≡ first_of (response_rows plant boundary s)
 unfolding take_response response_rows
@@ -28,8 +29,8 @@ response-first plant boundary s = parsed-first plant (parse_response boundary s)
 
 rows_rise : (plant : List ℕ) (o : Option (List ℕ × List ℕ)) → rising (row Cause.Response (formless o) ∷ carried_rows plant o) ≡ true
 unfolding taken_rows
-rows_rise plant none = refl
-rows_rise plant (some q) = refl
+rows_rise plant None = refl
+rows_rise plant (Some q) = refl
 
 pub response-refuses : ResponseRefuses
 unfolding response_rows
@@ -42,18 +43,18 @@ response-refuses plant boundary s c =
 -- a file taken out of a response is taken of the name and file that the response carries
 pub record TakenOut (plant boundary s : List ℕ) (f : File) : Type 0 where
   pub taken : TakenBy plant f
-  pub carried : parse_response boundary s ≡ some (taken.name, taken.body)
+  pub carried : parse_response boundary s ≡ Some (taken.name, taken.body)
 
 pub response-taken : (plant boundary s : List ℕ) (f : File) → take_response plant boundary s ≡ file f → TakenOut plant boundary s f
 unfolding take_response
 response-taken plant boundary s f e = go (parse_response boundary s) refl e
   where
     go : (o : Option (List ℕ × List ℕ)) → parse_response boundary s ≡ o → take_parsed plant o ≡ file f → TakenOut plant boundary s f
-    go none p e = absurd (some-ne-none Cause.Response (ap cause_of e))
-    go (some q) p e = record { taken = record { name = q.0; body = q.1; read = e }; carried = p }
+    go None p e = absurd (some-ne-none Cause.Response (ap cause_of e))
+    go (Some q) p e = record { taken = record { name = q.0; body = q.1; read = e }; carried = p }
 
 -- taking a response that carries a name and file is taking these, and so are its rows
-module _ (plant boundary s name body : List ℕ) (carried : parse_response boundary s ≡ some (name, body)) where
+module _ (plant boundary s name body : List ℕ) (carried : parse_response boundary s ≡ Some (name, body)) where
   pub response-carries : take_response plant boundary s ≡ take_file plant name body
   unfolding take_response
   response-carries = ap (take_parsed plant) carried

@@ -1,7 +1,6 @@
 -- Every lawful schedule file comes in some lawful response: the promises on what a response carries speak of every such file.
 -- Proved in proofs/Carrying.antt: `file-carried`.
-use Rattle.std.specs.Prelude.{ℕ, ◌≡◌, true, List}
-use Rattle.std.proofs.Math.Option.{Option}
+use Rattle.std.specs.Prelude.{ℕ, ◌≡◌, true, List, Option}
 use Rattle.rules.specs.Name.{encode_name}
 use Rattle.rules.specs.Body.{encode_body, is_schedule}
 use Rattle.rules.specs.File.{File, lawful}

@@ -1,7 +1,6 @@
 -- What the header lines say, by bytes put together: the length and the name that a reader finds in them are exactly those that were put there.
 -- Proved in proofs/Fields.antt: `length-given` and `name-given`.
-use Rattle.std.specs.Prelude.{ℕ, ◌≤◌, ◌<◌, ◌≡◌, Bool, true, false, not, ◌&&◌, List, [], ◌∷◌, ◌++◌, ◌↔◌, length, drop}
-use Rattle.std.proofs.Math.Option.{some}
+use Rattle.std.specs.Prelude.{ℕ, ◌≤◌, ◌<◌, ◌≡◌, Bool, true, false, not, ◌&&◌, List, [], ◌∷◌, ◌++◌, ◌↔◌, length, drop, Some}
 use Rattle.rules.specs.Digits.{all_digits, value, to_ascii}
 use Rattle.rules.specs.Response.{begins, content_length, content_disposition, file_name, given_length, given_name}
 
@@ -28,7 +27,7 @@ pub record LengthLine (ls : List (List ℕ)) (m : ℕ) : Type 0 where
 
 -- the lines give a length exactly where one of them is put together so
 abbrev pub LengthGiven : Type 0
-LengthGiven = (ls : List (List ℕ)) (m : ℕ) → (given_length ls ≡ some m) ↔ LengthLine ls m
+LengthGiven = (ls : List (List ℕ)) (m : ℕ) → (given_length ls ≡ Some m) ↔ LengthLine ls m
 
 -- 'the name is what follows the first `filename=` in the Content-Disposition line, quotation marks included, to the line's end'
 pub record NameLine (ls : List (List ℕ)) (n : List ℕ) : Type 0 where
@@ -38,4 +37,4 @@ pub record NameLine (ls : List (List ℕ)) (n : List ℕ) : Type 0 where
 
 -- and a name
 abbrev pub NameGiven : Type 0
-NameGiven = (ls : List (List ℕ)) (n : List ℕ) → (given_name ls ≡ some n) ↔ NameLine ls n
+NameGiven = (ls : List (List ℕ)) (n : List ℕ) → (given_name ls ≡ Some n) ↔ NameLine ls n

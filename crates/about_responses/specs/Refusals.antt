@@ -1,7 +1,6 @@
 -- A response's refusals: it is refused with the lowest row that applies, 17 before 7, and taken exactly where none does.
 -- Proved in proofs/Refusals.antt: `response-refuses` and `response-accepts`.
-use Rattle.std.specs.Prelude.{ℕ, ◌≡◌, false, List, ◌↔◌}
-use Rattle.std.proofs.Math.Option.{some}
+use Rattle.std.specs.Prelude.{ℕ, ◌≡◌, false, List, ◌↔◌, Some}
 use Rattle.rules.specs.File.{File, refuse, file}
 use Rattle.rules.specs.Response.{parse_response, take_response}
 use Rattle.rules.specs.Table.{applies_in, Lowest}
@@ -13,7 +12,7 @@ use Rattle.about_files.specs.ReadRefusals.{Parsed}
 pub record CarriedFile (boundary s : List ℕ) (f : File) : Type 0 where
   pub name : List ℕ
   pub body : List ℕ
-  pub carried : parse_response boundary s ≡ some (name, body)
+  pub carried : parse_response boundary s ≡ Some (name, body)
   pub parsed : Parsed name body f
 
 abbrev pub ResponseRefuses : Type 0

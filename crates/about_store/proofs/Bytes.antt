@@ -1,9 +1,9 @@
 -- Laws of a store after a run of stores in one block, seen from that block and from another.
+use Rattle.std.specs.Prelude.{Some}
 use mathlib.Core.Path.{◌≡◌, refl, ◌∙◌}
 use mathlib.Core.Logic.{◌⊎◌, inl, inr, ◌≢◌}
 use mathlib.Core.Bool.{Bool, true, false, cond, ◌&&◌}
 use mathlib.Core.List.{List, [], ◌∷◌}
-use mathlib.Core.Option.{some}
 use Prim.Native.Nat.{ℕ, zero, suc, ◌+◌, ◌-◌, ◌*◌, ◌≤◌, ◌<◌}
 use native.Mathlib.Omega.{arith}
 use native.Mathlib.Nat.{suc-add, add-suc, add-zero, le_of_suc-le-suc, not-suc-le-zero}
@@ -57,14 +57,14 @@ laid-there s rates b f c i d n l q = write-there s (rate_bytes rates) b f c i d 
 
 pub laid-here : (s rates : List ℕ) (b f i d : ℕ) → f + length rates ≤ block_length → b * block_length + block_length ≤ length s
     → get_or (sets s (place b f) (rate_bytes rates)) (place b i) d
-    ≡ cond (leb f i && ltb i (f + length rates)) (to_byte (some (get_or rates (i - f) 0))) (get_or s (place b i) d)
+    ≡ cond (leb f i && ltb i (f + length rates)) (to_byte (Some (get_or rates (i - f) 0))) (get_or s (place b i) d)
 laid-here s rates b f i d p q =
     rw (bytes-length rates) at (write-here s (rate_bytes rates) b f i d 0 (rw (bytes-length rates) p) q)
     ∙ go (leb f i) refl (ltb i (f + length rates)) refl
   where
     go : (t : Bool) → leb f i ≡ t → (u : Bool) → ltb i (f + length rates) ≡ u
         → cond (t && u) (get_or (rate_bytes rates) (i - f) 0) (get_or s (place b i) d)
-        ≡ cond (t && u) (to_byte (some (get_or rates (i - f) 0))) (get_or s (place b i) d)
+        ≡ cond (t && u) (to_byte (Some (get_or rates (i - f) 0))) (get_or s (place b i) d)
     go true e true k = bytes-at rates (i - f) 0 (omega (arith, leb-true f i e, ltb-true i (f + length rates) k))
     go true e false k = refl
     go false e u k = refl

@@ -1,8 +1,8 @@
 -- Laws of the machine's list of files: what one file more does to its rates and its held months, and when a slot has no rate.
+use Rattle.std.specs.Prelude.{Option, None, Some}
 use mathlib.Core.Path.{◌≡◌, refl, sym, ◌∙◌}
 use mathlib.Core.Bool.{Bool, true, false, cond, not, ◌&&◌, ◌||◌, true≢false, and-false, or-false, or_assoc}
 use mathlib.Core.List.{List, [], ◌∷◌, ◌++◌}
-use mathlib.Core.Option.{Option, none, some}
 use Prim.Native.Nat.{ℕ, suc, ◌+◌, ◌-◌, ◌≤◌, ◌<◌, min, max}
 use native.Mathlib.Omega.{arith}
 use lib.Dec.{leb, ltb}
@@ -40,12 +40,12 @@ covers-touches m s r from until e =
     lt-ltb (max (start_of r) (first_slot m)) (min (start_of r + length r.rates) (first_slot (suc m))) (omega (arith, w.0, w.1))
 
 module _ (m s : ℕ) (from : first_slot m ≤ s) (until : s < first_slot (suc m)) where
-  in-none : (rs : List Record) → any_record m rs ≡ false → rate_in s rs ≡ none
+  in-none : (rs : List Record) → any_record m rs ≡ false → rate_in s rs ≡ None
   unfolding any_record rate_in
   in-none [] e = refl
   in-none (r ∷ rs) e = go (covers s r) refl (in-none rs (neither (touches m r) (any_record m rs) e).1)
     where
-      go : (t : Bool) → covers s r ≡ t → rate_in s rs ≡ none → cond t (some (get_or r.rates (s - start_of r) 0)) (rate_in s rs) ≡ none
+      go : (t : Bool) → covers s r ≡ t → rate_in s rs ≡ None → cond t (Some (get_or r.rates (s - start_of r) 0)) (rate_in s rs) ≡ None
       go true c q = absurd (true≢false (sym (covers-touches m s r from until c) ∙ (neither (touches m r) (any_record m rs) e).0))
       go false c q = q
 
@@ -59,7 +59,7 @@ module _ (m s : ℕ) (from : first_slot m ≤ s) (until : s < first_slot (suc m)
       rw (in-none rs n.0) (last_none fs o n.1)
 
 -- records that begin after slot s do not cover it
-pub before-none : (s t : ℕ) (rs : List Record) → RunFrom t rs → s < t → rate_in s rs ≡ none
+pub before-none : (s t : ℕ) (rs : List Record) → RunFrom t rs → s < t → rate_in s rs ≡ None
 unfolding rate_in
 before-none s t [] g l = refl
 before-none s t (r ∷ rs) g l =
@@ -81,41 +81,41 @@ month-floor floor m i l k = go (ltb m month_count) refl
 
 -- rates below the floor are none
 module _ (M : Machine) (low : M.floor ≤ last_month) (m i : ℕ) where
-  pub rate-at : rate_at M m i ≡ cond (leb M.floor m && ltb i (slots_of_month m)) (last_rate (first_slot m + i) M.files none) none
+  pub rate-at : rate_at M m i ≡ cond (leb M.floor m && ltb i (slots_of_month m)) (last_rate (first_slot m + i) M.files None) None
   unfolding rate_at rate_of
   rate-at = rw (← ltb-leb m M.floor) (go (ltb i (slots_of_month m)) refl)
     where
-      swap : (t : Bool) (o : Option ℕ) → cond t none o ≡ cond (not t && true) o none
+      swap : (t : Bool) (o : Option ℕ) → cond t None o ≡ cond (not t && true) o None
       swap true o = refl
       swap false o = refl
 
       go : (t : Bool) → ltb i (slots_of_month m) ≡ t
-          → cond t (cond (ltb (month_of_slot (first_slot m + i)) M.floor) none (last_rate (first_slot m + i) M.files none)) none
-          ≡ cond (not (ltb m M.floor) && t) (last_rate (first_slot m + i) M.files none) none
-      go true e = rw (month-floor M.floor m i low (ltb-true i (slots_of_month m) e)) (swap (ltb m M.floor) (last_rate (first_slot m + i) M.files none))
+          → cond t (cond (ltb (month_of_slot (first_slot m + i)) M.floor) None (last_rate (first_slot m + i) M.files None)) None
+          ≡ cond (not (ltb m M.floor) && t) (last_rate (first_slot m + i) M.files None) None
+      go true e = rw (month-floor M.floor m i low (ltb-true i (slots_of_month m) e)) (swap (ltb m M.floor) (last_rate (first_slot m + i) M.files None))
       go false e = rw (and-false (not (ltb m M.floor)))
 
-  pub rate-above : M.floor ≤ m → rate_at M m i ≡ cond (ltb i (slots_of_month m)) (last_rate (first_slot m + i) M.files none) none
+  pub rate-above : M.floor ≤ m → rate_at M m i ≡ cond (ltb i (slots_of_month m)) (last_rate (first_slot m + i) M.files None) None
   rate-above l = rate-at ∙ rw (le-leb M.floor m l)
 
   -- a month that is not held has no rates
-  pub rate-none : is_held M m ≡ false → rate_at M m i ≡ none
+  pub rate-none : is_held M m ≡ false → rate_at M m i ≡ None
   unfolding is_held
   rate-none e = rate-at ∙ go (leb M.floor m) (ltb i (slots_of_month m)) refl e
     where
       go : (a b : Bool) → ltb i (slots_of_month m) ≡ b → a && any_file m M.files ≡ false
-          → cond (a && b) (last_rate (first_slot m + i) M.files none) none ≡ none
-      go true true q z = last_none m (first_slot m + i) (omega arith) (omega (arith, first-slot-step m, ltb-true i (slots_of_month m) q)) M.files none z
+          → cond (a && b) (last_rate (first_slot m + i) M.files None) None ≡ None
+      go true true q z = last_none m (first_slot m + i) (omega arith) (omega (arith, first-slot-step m, ltb-true i (slots_of_month m) q)) M.files None z
       go true false q z = refl
       go false b q z = refl
 
 -- ---- rates are at most 100
 
-pub in-low : (s t : ℕ) (rs : List Record) → RunFrom t rs → (r : ℕ) → rate_in s rs ≡ some r → r ≤ highest_rate
+pub in-low : (s t : ℕ) (rs : List Record) → RunFrom t rs → (r : ℕ) → rate_in s rs ≡ Some r → r ≤ highest_rate
 unfolding rate_in
 in-low s t [] g r e = let z : ◌≡◌ {A = ℕ} 0 1 = cc in absurd (omega arith)
 in-low s t (x ∷ rs) g r e = go (covers s x) (in-low s (t + length x.rates) rs g.2 r) e
   where
-    go : (c : Bool) → (rate_in s rs ≡ some r → r ≤ highest_rate) → cond c (some (get_or x.rates (s - start_of x) 0)) (rate_in s rs) ≡ some r → r ≤ highest_rate
+    go : (c : Bool) → (rate_in s rs ≡ Some r → r ≤ highest_rate) → cond c (Some (get_or x.rates (s - start_of x) 0)) (rate_in s rs) ≡ Some r → r ≤ highest_rate
     go true rest q = let w : get_or x.rates (s - start_of x) 0 ≡ r = cc in omega (arith, at-most-at highest_rate x.rates (s - start_of x) g.1.rates)
     go false rest q = rest q

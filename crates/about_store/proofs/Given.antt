@@ -1,4 +1,5 @@
 -- Laws of the pool beyond its own: which blocks hold which months after one is given or some are released, and how many are free.
+use Rattle.std.specs.Prelude.{Some, None}
 use mathlib.Core.Path.{◌≡◌, refl, sym, ap, ◌∙◌}
 use mathlib.Core.Logic.{◌⊎◌, inl, inr, ◌↔◌}
 use mathlib.Core.Bool.{Bool, true, false, not, ◌&&◌, false≢true, and-true}
@@ -15,7 +16,6 @@ use Rattle.laws.proofs.Tests.{same}
 use Rattle.pool.specs.Blocks.{is_free, free_count, find_of, given, free_after, release_of}
 use Rattle.pool.specs.Held.{InBlock, Held, Sound, held_months}
 use Rattle.pool.specs.declared.Pool.{Pool}
-use Rattle.pool.specs.declared.Found.TheVariants.{At, Nothing}
 use Rattle.pool.proofs.BelowLaws.{bit-number, number_lt}
 use Rattle.pool.proofs.Laws.{find_in, free-is, months-held, months-once, months-few}
 use Rattle.about_store.specs.Untouched.{Keeps}
@@ -74,9 +74,9 @@ module _ (p : Pool) (floor : ℕ) where
 
 -- ---- what find answers
 
-pub found-not : (p : Pool) (floor m : ℕ) → Sound p floor → find_of p m ≡ Nothing → Held p m → ⊥
+pub found-not : (p : Pool) (floor m : ℕ) → Sound p floor → find_of p m ≡ None → Held p m → ⊥
 found-not p floor m s e h =
-    let z : At h.0 ≡ Nothing = sym (find_in p floor m h.0 s h.1) ∙ e in
+    let z : Some h.0 ≡ None = sym (find_in p floor m h.0 s h.1) ∙ e in
     let w : ◌≡◌ {A = ℕ} 0 1 = cc in
     omega arith
 

@@ -1,8 +1,8 @@
 -- A run of rates as two pieces, of its first month and of the next: they cover the run's slots and no others.
+use Rattle.std.specs.Prelude.{Option, Some}
 use mathlib.Core.Path.{◌≡◌, refl, ap, ◌∙◌}
 use mathlib.Core.Bool.{Bool, true, ◌&&◌}
 use mathlib.Core.List.{List}
-use mathlib.Core.Option.{Option, some}
 use Prim.Native.Nat.{ℕ, suc, ◌+◌, ◌-◌, ◌≤◌, ◌<◌, min, max}
 use native.Mathlib.Omega.{arith}
 use lib.Dec.{leb, ltb}
@@ -39,7 +39,7 @@ run_covers k i s n = ltb i (slots_of_month k) && (leb s (first_slot k + i) && lt
 
 -- its rate
 abbrev pub run_says : ℕ → ℕ → ℕ → List ℕ → Option ℕ
-run_says k i s rates = some (get_or rates (first_slot k + i - s) 0)
+run_says k i s rates = Some (get_or rates (first_slot k + i - s) 0)
 
 pub run-slot : (k i s n : ℕ) → run_covers k i s n ≡ true → (i < slots_of_month k) × (s ≤ first_slot k + i) × (first_slot k + i < s + n)
 run-slot k i s n e =
@@ -108,7 +108,7 @@ module _ (k s : ℕ) (rates : List ℕ) where
       let w = piece-slot i e in
       let from = max s (first_slot k) in
       let until = min (s + length rates) (first_slot (suc k)) in
-      ap some
+      ap Some
       (part_at rates (from - s) (until - from) (i - (from - first_slot k)) (first_slot k + i - s)
       (omega (arith, w.0, w.1)) (part-index (first_slot k) s i w.0))
 

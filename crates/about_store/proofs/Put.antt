@@ -1,8 +1,8 @@
 -- What a put piece does to the view of pool and store.
+use Rattle.std.specs.Prelude.{Some, None, Option}
 use mathlib.Core.Path.{◌≡◌, refl, sym, ap, ◌∙◌}
 use mathlib.Core.Logic.{◌≢◌}
 use mathlib.Core.Bool.{Bool, true, false, cond, ◌&&◌, ◌||◌, true≢false}
-use mathlib.Core.Option.{Option, some}
 use Prim.Native.Nat.{ℕ, ◌+◌, ◌≤◌, ◌<◌}
 use native.Mathlib.Omega.{arith}
 use native.Mathlib.Decide.{ℕ_discrete}
@@ -16,8 +16,6 @@ use Rattle.rules.specs.Machine.{count_below}
 use Rattle.laws.proofs.Tests.{both}
 use Rattle.pool.specs.Blocks.{find_of}
 use Rattle.pool.specs.Held.{InBlock}
-use Rattle.pool.specs.declared.Found.{Found}
-use Rattle.pool.specs.declared.Found.TheVariants.{At, Nothing}
 use Rattle.pool.proofs.Laws.{find_at}
 use Rattle.schedule.specs.Stored.{Stored, Piece, place, open_month, lay_by, lay_piece, put_piece}
 use Rattle.about_store.proofs.Bytes.{laid-there, laid-here}
@@ -26,7 +24,7 @@ use Rattle.about_store.proofs.View.{View, Shows, open_view, lay_view, piece_cove
 covers-not : (q : Piece) (k i : ℕ) → k ≢ q.month → piece_covers k i q ≡ false
 covers-not q k i n = rw (ne_eqb k q.month n)
 
-byte-cond : (t : Bool) (r : ℕ) (o : Option ℕ) → cond t (to_byte (some r)) (to_byte o) ≡ to_byte (cond t (some r) o)
+byte-cond : (t : Bool) (r : ℕ) (o : Option ℕ) → cond t (to_byte (Some r)) (to_byte o) ≡ to_byte (cond t (Some r) o)
 byte-cond true r o = refl
 byte-cond false r o = refl
 
@@ -36,9 +34,9 @@ pub lay_shows : (st : Stored) (v : View) → Shows st v
 unfolding lay_piece
 lay_shows st v h q fits e = go (find_of st.pool q.month) refl
   where
-    go : (o : Found) → find_of st.pool q.month ≡ o → Shows (lay_by o q st) (lay_view q v)
-    go Nothing f = absurd (true≢false (sym e ∙ not-held st v h q.month f))
-    go (At b) f = record {
+    go : (o : Option ℕ) → find_of st.pool q.month ≡ o → Shows (lay_by o q st) (lay_view q v)
+    go None f = absurd (true≢false (sym e ∙ not-held st v h q.month f))
+    go (Some b) f = record {
       months = h.months;
       bits = h.bits;
       full = length-sets st.store (place b q.from) (rate_bytes q.rates) ∙ h.full;

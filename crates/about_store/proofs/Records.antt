@@ -1,8 +1,8 @@
 -- What a file's records, put in order, do to the view of pool and store, and that the machine's list of files says the same.
+use Rattle.std.specs.Prelude.{Option, None, Some}
 use mathlib.Core.Path.{◌≡◌, refl, sym, ◌∙◌}
 use mathlib.Core.Bool.{Bool, true, false, cond, ◌&&◌, ◌||◌, and-false, or-true}
 use mathlib.Core.List.{List, [], ◌∷◌}
-use mathlib.Core.Option.{Option, none, some}
 use Prim.Native.Nat.{ℕ, ◌+◌, ◌-◌, ◌≤◌}
 use native.Mathlib.Omega.{arith}
 use lib.Dec.{leb, ltb}
@@ -64,15 +64,15 @@ records-says t (r ∷ rs) g v k i =
     s = first_slot k + i
 
     X : Option ℕ
-    X = some (get_or r.rates (s - start_of r) 0)
+    X = Some (get_or r.rates (s - start_of r) 0)
 
     -- the records after this one begin after its slots
-    later : covers s r ≡ true → rate_in s rs ≡ none
+    later : covers s r ≡ true → rate_in s rs ≡ None
     later e =
         let w = between (start_of r) s (start_of r + length r.rates) e in
         before-none s (t + length r.rates) rs g.2 (omega (arith, w.1, g.0))
 
-    go : (a b c : Bool) (n : Option ℕ) → (c ≡ true → n ≡ none)
+    go : (a b c : Bool) (n : Option ℕ) → (c ≡ true → n ≡ None)
         → cond (a && b) (or_else n (cond (a && (b && c)) X (v.says k i))) (cond (a && (b && c)) X (v.says k i))
         ≡ cond (a && b) (or_else (cond c X n) (v.says k i)) (v.says k i)
     go true true true n h = rw (h refl)
@@ -107,10 +107,10 @@ module _ (c : ℕ) (f : File) (M : Machine) where
   unfolding with_file
   says-with low k i =
       rate-at (with_file c f M) low k i
-      ∙ rw (last_more (first_slot k + i) M.files f none, rate-at M low k i)
-      (go (leb M.floor k && ltb i (slots_of_month k)) (rate_in (first_slot k + i) (records_in f.body)) (last_rate (first_slot k + i) M.files none))
+      ∙ rw (last_more (first_slot k + i) M.files f None, rate-at M low k i)
+      (go (leb M.floor k && ltb i (slots_of_month k)) (rate_in (first_slot k + i) (records_in f.body)) (last_rate (first_slot k + i) M.files None))
     where
-      go : (a : Bool) (n o : Option ℕ) → cond a (or_else n o) none ≡ cond a (or_else n (cond a o none)) (cond a o none)
+      go : (a : Bool) (n o : Option ℕ) → cond a (or_else n o) None ≡ cond a (or_else n (cond a o None)) (cond a o None)
       go true n o = refl
       go false n o = refl
 

@@ -1,9 +1,9 @@
 -- Whether there is room for a file's records, and that they leave rates of 0 to 100: by the view alone.
+use Rattle.std.specs.Prelude.{Option, None, Some, is_none}
 use mathlib.Core.Path.{◌≡◌, refl, sym, ap, ◌∙◌}
 use mathlib.Core.Logic.{⊎_elim}
 use mathlib.Core.Bool.{Bool, true, false, cond, not, ◌&&◌, ◌||◌}
 use mathlib.Core.List.{List, [], ◌∷◌}
-use mathlib.Core.Option.{Option, none, some}
 use Prim.Native.Nat.{ℕ, suc, ◌+◌, ◌≤◌, min, max}
 use native.Mathlib.Omega.{arith}
 use lib.Dec.{leb, ltb}
@@ -14,7 +14,7 @@ use Rattle.rules.specs.Body.{Record, highest_rate}
 use Rattle.rules.specs.Machine.{count_below, any_record, rate_in, or_else}
 use Rattle.laws.proofs.Tests.{same, isnt, either}
 use Rattle.pool.specs.Blocks.{find_of}
-use Rattle.schedule.specs.Stored.{Stored, meets, is_nothing, missing}
+use Rattle.schedule.specs.Stored.{Stored, meets, missing}
 use Rattle.about_store.specs.Run.{RunFrom, run_start, run_length}
 use Rattle.about_store.proofs.Ranges.{Overlap, meet_facts, facts_meet}
 use Rattle.about_store.proofs.Counts.{count_same, count_add, one_more}
@@ -63,15 +63,15 @@ module _ (v : View) (rs : List Record) (run : RunFrom (run_start rs) rs) where
     ends = λ m i l. records-says (run_start rs) rs run v m i ∙ rw (le-ltb i (slots_of_month m) l) (end m i l (leb v.floor m));
   }
     where
-      new : (m i r : ℕ) (o : Option ℕ) → rate_in (first_slot m + i) rs ≡ o → or_else o (v.says m i) ≡ some r → r ≤ highest_rate
-      new m i r none q e = p.rates m i r e
-      new m i r (some x) q e = in-low (first_slot m + i) (run_start rs) rs run r (q ∙ e)
+      new : (m i r : ℕ) (o : Option ℕ) → rate_in (first_slot m + i) rs ≡ o → or_else o (v.says m i) ≡ Some r → r ≤ highest_rate
+      new m i r None q e = p.rates m i r e
+      new m i r (Some x) q e = in-low (first_slot m + i) (run_start rs) rs run r (q ∙ e)
 
-      rate : (m i r : ℕ) (t : Bool) → cond t (or_else (rate_in (first_slot m + i) rs) (v.says m i)) (v.says m i) ≡ some r → r ≤ highest_rate
+      rate : (m i r : ℕ) (t : Bool) → cond t (or_else (rate_in (first_slot m + i) rs) (v.says m i)) (v.says m i) ≡ Some r → r ≤ highest_rate
       rate m i r true e = new m i r (rate_in (first_slot m + i) rs) refl e
       rate m i r false e = p.rates m i r e
 
-      end : (m i : ℕ) → slots_of_month m ≤ i → (a : Bool) → cond (a && false) (or_else (rate_in (first_slot m + i) rs) (v.says m i)) (v.says m i) ≡ none
+      end : (m i : ℕ) → slots_of_month m ≤ i → (a : Bool) → cond (a && false) (or_else (rate_in (first_slot m + i) rs) (v.says m i)) (v.says m i) ≡ None
       end m i l true = p.ends m i l
       end m i l false = p.ends m i l
 
@@ -82,7 +82,7 @@ module _ (v : View) (rs : List Record) (run : RunFrom (run_start rs) rs) where
   pub missing-view : Plain v → (st : Stored) → Shows st v → missing st.pool v.floor (run_start rs) (run_length rs) ≡ lacking
   unfolding missing lacking
   missing-view plain st h =
-      count_same month_count (λ m. leb v.floor m && meets m (run_start rs) (run_length rs) && is_nothing (find_of st.pool m))
+      count_same month_count (λ m. leb v.floor m && meets m (run_start rs) (run_length rs) && is_none (find_of st.pool m))
       (λ m. leb v.floor m && meets m (run_start rs) (run_length rs) && not (v.held m))
       (λ m l. ap (λ (t : Bool). leb v.floor m && meets m (run_start rs) (run_length rs) && t) (nothing-view v plain st h m))
 

@@ -1,9 +1,9 @@
 -- What every pool and store with one view have in common, and what releasing blocks does to the view: no list of files is seen here.
+use Rattle.std.specs.Prelude.{Some, None, Option, is_none}
 use mathlib.Core.Path.{◌≡◌, refl, sym, ap, ◌∙◌}
 use mathlib.Core.Logic.{◌↔◌}
 use mathlib.Core.Bool.{Bool, true, false, cond, not, ◌&&◌}
 use mathlib.Core.List.{List, [], ◌∷◌}
-use mathlib.Core.Option.{Option, none, some}
 use Prim.Native.Nat.{ℕ, zero, suc, ◌+◌, ◌-◌, ◌*◌, ◌≤◌, ◌<◌, min}
 use native.Mathlib.Omega.{arith}
 use lib.Dec.{leb, eqb}
@@ -18,28 +18,26 @@ use Rattle.laws.proofs.Tests.{both}
 use Rattle.calendar.proofs.Laws.{days-range, first-slot-step, slot-month-from, slot-month-until}
 use Rattle.pool.specs.Blocks.{is_free, month_of, free_count, find_of, release_of}
 use Rattle.pool.specs.Held.{InBlock, Held, held_below, held_of}
-use Rattle.pool.specs.declared.Found.{Found}
-use Rattle.pool.specs.declared.Found.TheVariants.{At, Nothing}
 use Rattle.pool.proofs.Laws.{find_at, released-held, released-sound, released_in}
-use Rattle.schedule.specs.Stored.{Stored, place, rate_found, stored_rate, is_nothing}
+use Rattle.schedule.specs.Stored.{Stored, place, rate_found, stored_rate}
 use Rattle.about_store.proofs.Given.{released-bits, released-months}
 use Rattle.about_store.proofs.View.{View, Shows, count-view, not-held}
 
 -- rates are 0 to 100, and a month has none past its end
 pub record Plain (v : View) : Type 0 where
-  pub rates : (m i r : ℕ) → v.says m i ≡ some r → r ≤ highest_rate
-  pub ends : (m i : ℕ) → slots_of_month m ≤ i → v.says m i ≡ none
+  pub rates : (m i r : ℕ) → v.says m i ≡ Some r → r ≤ highest_rate
+  pub ends : (m i : ℕ) → slots_of_month m ≤ i → v.says m i ≡ None
 
 -- ---- a byte reads back
 
-low-back : (r : ℕ) → r ≤ highest_rate → from_byte (to_byte (some r)) ≡ some r
+low-back : (r : ℕ) → r ≤ highest_rate → from_byte (to_byte (Some r)) ≡ Some r
 unfolding from_byte
 low-back r l = rw (ne_eqb r no_rate (λ e. omega arith))
 
-byte-back : (o : Option ℕ) → ((r : ℕ) → o ≡ some r → r ≤ highest_rate) → from_byte (to_byte o) ≡ o
+byte-back : (o : Option ℕ) → ((r : ℕ) → o ≡ Some r → r ≤ highest_rate) → from_byte (to_byte o) ≡ o
 unfolding from_byte
-byte-back none h = refl
-byte-back (some r) h = low-back r (h r refl)
+byte-back None h = refl
+byte-back (Some r) h = low-back r (h r refl)
 
 -- ---- a block of the store
 
@@ -71,25 +69,25 @@ module _ (v : View) (plain : Plain v) where
         until : s - first_slot m < block_length
         until = omega (arith, slot-month-from s l, slot-month-until s l, first-slot-step m, days-range m)
 
-        go : (o : Found) → find_of st.pool m ≡ o → rate_found o st.store (s - first_slot m) ≡ v.says m (s - first_slot m)
-        go (At b) e = ap from_byte (h.bytes m b (s - first_slot m) (find_at st.pool m b e) until) ∙ byte-back _ (plain.rates m (s - first_slot m))
-        go Nothing e = sym (h.silent m (s - first_slot m) (not-held st v h m e))
+        go : (o : Option ℕ) → find_of st.pool m ≡ o → rate_found o st.store (s - first_slot m) ≡ v.says m (s - first_slot m)
+        go (Some b) e = ap from_byte (h.bytes m b (s - first_slot m) (find_at st.pool m b e) until) ∙ byte-back _ (plain.rates m (s - first_slot m))
+        go None e = sym (h.silent m (s - first_slot m) (not-held st v h m e))
 
     pub free-view : free_count st.pool ≡ block_count - count_below month_count v.held
     free-view = omega (arith, count-view st v h)
 
-    pub nothing-view : (m : ℕ) → is_nothing (find_of st.pool m) ≡ not (v.held m)
+    pub nothing-view : (m : ℕ) → is_none (find_of st.pool m) ≡ not (v.held m)
     nothing-view m = go (find_of st.pool m) refl
       where
-        go : (o : Found) → find_of st.pool m ≡ o → is_nothing o ≡ not (v.held m)
-        go (At b) e = rw ((h.held m).0 (b, find_at st.pool m b e))
-        go Nothing e = rw (not-held st v h m e)
+        go : (o : Option ℕ) → find_of st.pool m ≡ o → is_none o ≡ not (v.held m)
+        go (Some b) e = rw ((h.held m).0 (b, find_at st.pool m b e))
+        go None e = rw (not-held st v h m e)
 
     -- ---- the store is sound
 
-    low_byte : (o : Option ℕ) → ((r : ℕ) → o ≡ some r → r ≤ highest_rate) → lawful_byte (to_byte o) ≡ true
-    low_byte none k = refl
-    low_byte (some r) k = rw (le-leb r highest_rate (k r refl))
+    low_byte : (o : Option ℕ) → ((r : ℕ) → o ≡ Some r → r ≤ highest_rate) → lawful_byte (to_byte o) ≡ true
+    low_byte None k = refl
+    low_byte (Some r) k = rw (le-leb r highest_rate (k r refl))
 
     block-sound : (m b : ℕ) → InBlock st.pool m b → sound_block m (block_of st.store b) ≡ true
     unfolding sound_block
@@ -144,7 +142,7 @@ module _ (v : View) (st u : Stored) (h : Shows st v) (k : Shows u v) where
 
 -- floor is f, and months below it are held no more
 abbrev pub release_view : ℕ → View → View
-release_view f v = record { floor = f; held = λ m. leb f m && v.held m; says = λ m i. cond (leb f m) (v.says m i) none }
+release_view f v = record { floor = f; held = λ m. leb f m && v.held m; says = λ m i. cond (leb f m) (v.says m i) None }
 
 module _ (f : ℕ) (v : View) where
   pub release-plain : Plain v → Plain (release_view f v)
@@ -153,11 +151,11 @@ module _ (f : ℕ) (v : View) where
     ends = λ m i l. end m i l (leb f m);
   }
     where
-      rate : (m i r : ℕ) (t : Bool) → cond t (v.says m i) none ≡ some r → r ≤ highest_rate
+      rate : (m i r : ℕ) (t : Bool) → cond t (v.says m i) None ≡ Some r → r ≤ highest_rate
       rate m i r true e = p.rates m i r e
       rate m i r false e = let z : ◌≡◌ {A = ℕ} 0 1 = cc in absurd (omega arith)
 
-      end : (m i : ℕ) → slots_of_month m ≤ i → (t : Bool) → cond t (v.says m i) none ≡ none
+      end : (m i : ℕ) → slots_of_month m ≤ i → (t : Bool) → cond t (v.says m i) None ≡ None
       end m i l true = p.ends m i l
       end m i l false = refl
 
@@ -178,6 +176,6 @@ module _ (f : ℕ) (v : View) where
     silent = λ m i e. silent m i (leb f m) e;
   }
     where
-      silent : (m i : ℕ) (t : Bool) → (t && v.held m) ≡ false → cond t (v.says m i) none ≡ none
+      silent : (m i : ℕ) (t : Bool) → (t && v.held m) ≡ false → cond t (v.says m i) None ≡ None
       silent m i true e = h.silent m i e
       silent m i false e = refl

@@ -1,8 +1,8 @@
 -- Pool and store go on agreeing with the machine: when they are fresh, when blocks are released, and when a file is put.
+use Rattle.std.specs.Prelude.{Option, None, Some}
 use mathlib.Core.Path.{◌≡◌, refl, sym, ap, ◌∙◌, subst}
 use mathlib.Core.Bool.{Bool, true, false, cond, ◌&&◌, true≢false, false≢true, and-false}
 use mathlib.Core.List.{[], ◌∷◌, ◌++◌}
-use mathlib.Core.Option.{Option, none, some}
 use Prim.Native.Nat.{ℕ, ◌+◌, ◌≤◌, ◌<◌}
 use native.Mathlib.Omega.{arith}
 use lib.Dec.{leb, ltb, lit<}
@@ -39,7 +39,7 @@ agrees_shows st M a = record {
   silent = λ m i e. rate-none M a.floor m i e;
 }
 
-pub shows_agrees : (st : Stored) (M : Machine) → Shows st (view_of M) → ((s r : ℕ) → rate_of M s ≡ some r → r ≤ highest_rate) → Agrees st M
+pub shows_agrees : (st : Stored) (M : Machine) → Shows st (view_of M) → ((s r : ℕ) → rate_of M s ≡ Some r → r ≤ highest_rate) → Agrees st M
 shows_agrees st M h low = record {
   months = h.months;
   bits = h.bits;
@@ -55,7 +55,7 @@ pub agrees-plain : (st : Stored) (M : Machine) → Agrees st M → Plain (view_o
 unfolding rate_at
 agrees-plain st M a = record { rates = λ m i r e. rate m i r (ltb i (slots_of_month m)) e; ends = λ m i l. rw (le-ltb i (slots_of_month m) l) }
   where
-    rate : (m i r : ℕ) (t : Bool) → cond t (rate_of M (first_slot m + i)) none ≡ some r → r ≤ highest_rate
+    rate : (m i r : ℕ) (t : Bool) → cond t (rate_of M (first_slot m + i)) None ≡ Some r → r ≤ highest_rate
     rate m i r true e = a.rates (first_slot m + i) r e
     rate m i r false e = let z : ◌≡◌ {A = ℕ} 0 1 = cc in absurd (omega arith)
 
@@ -80,21 +80,21 @@ fresh p store long all full = record {
     none-used : (m b : ℕ) → InBlock p m b → ⊥
     none-used m b i = true≢false (sym (free b i.below) ∙ sym (ap (λ (n : ℕ). bit n b) all) ∙ i.used)
 
-    nothing : (t : Bool) (r : ℕ) → cond t none none ≡ some r → ⊥
+    nothing : (t : Bool) (r : ℕ) → cond t None None ≡ Some r → ⊥
     nothing true r e = let z : ◌≡◌ {A = ℕ} 0 1 = cc in omega arith
     nothing false r e = let z : ◌≡◌ {A = ℕ} 0 1 = cc in omega arith
 
 -- ---- released
 
-cond-some : (t : Bool) (o : Option ℕ) (r : ℕ) → cond t none o ≡ some r → (t ≡ false) × (o ≡ some r)
+cond-some : (t : Bool) (o : Option ℕ) (r : ℕ) → cond t None o ≡ Some r → (t ≡ false) × (o ≡ Some r)
 cond-some true o r e = let z : ◌≡◌ {A = ℕ} 0 1 = cc in absurd (omega arith)
 cond-some false o r e = (refl, e)
 
 -- what a later floor leaves is what there was
-older-rate : (M N : Machine) → N.files ≡ M.files → M.floor ≤ N.floor → (s r : ℕ) → rate_of N s ≡ some r → rate_of M s ≡ some r
+older-rate : (M N : Machine) → N.files ≡ M.files → M.floor ≤ N.floor → (s r : ℕ) → rate_of N s ≡ Some r → rate_of M s ≡ Some r
 unfolding rate_of
 older-rate M N ee up s r e =
-    let w = cond-some (ltb (month_of_slot s) N.floor) (last_rate s N.files none) r e in
+    let w = cond-some (ltb (month_of_slot s) N.floor) (last_rate s N.files None) r e in
     let l = ltb-false (month_of_slot s) N.floor w.0 in
     rw (le-ltb (month_of_slot s) M.floor (omega arith), ← ee) w.1
 
@@ -110,10 +110,10 @@ view_release M N f ef ee up low = λ j. record { floor = ef j; held = λ m. same
         go true e = rw (le-leb M.floor m (omega (arith, leb-true f m e)))
         go false e = refl
 
-    same-says : (m i : ℕ) → rate_at N m i ≡ cond (leb f m) (rate_at M m i) none
+    same-says : (m i : ℕ) → rate_at N m i ≡ cond (leb f m) (rate_at M m i) None
     same-says m i = rate-at N (rw ef low) m i ∙ rw (ef, ee) (go (leb f m) refl)
       where
-        go : (t : Bool) → leb f m ≡ t → cond (t && ltb i (slots_of_month m)) (last_rate (first_slot m + i) M.files none) none ≡ cond t (rate_at M m i) none
+        go : (t : Bool) → leb f m ≡ t → cond (t && ltb i (slots_of_month m)) (last_rate (first_slot m + i) M.files None) None ≡ cond t (rate_at M m i) None
         go true e = let l = leb-true f m e in sym (rate-above M (omega arith) m i (omega arith))
         go false e = refl
 
@@ -140,18 +140,18 @@ same-files st M N ef ee a = record {
 -- ---- a file put
 
 -- no rate of a file that can be put is above 100
-low-with : (c : ℕ) (M : Machine) (f : File) → GoodFile f → ((s r : ℕ) → rate_of M s ≡ some r → r ≤ highest_rate)
-    → (s r : ℕ) → rate_of (with_file c f M) s ≡ some r → r ≤ highest_rate
+low-with : (c : ℕ) (M : Machine) (f : File) → GoodFile f → ((s r : ℕ) → rate_of M s ≡ Some r → r ≤ highest_rate)
+    → (s r : ℕ) → rate_of (with_file c f M) s ≡ Some r → r ≤ highest_rate
 unfolding rate_of with_file
 low-with c M f g low s r e =
     let rs = records_in f.body in
-    let w = cond-some (ltb (month_of_slot s) M.floor) (last_rate s (M.files ++ (f ∷ [])) none) r e in
-    go (rate_in s rs) refl (sym (last_more s M.files f none) ∙ w.1) w.0
+    let w = cond-some (ltb (month_of_slot s) M.floor) (last_rate s (M.files ++ (f ∷ [])) None) r e in
+    go (rate_in s rs) refl (sym (last_more s M.files f None) ∙ w.1) w.0
   where
-    go : (o : Option ℕ) → rate_in s (records_in f.body) ≡ o → or_else o (last_rate s M.files none) ≡ some r
+    go : (o : Option ℕ) → rate_in s (records_in f.body) ≡ o → or_else o (last_rate s M.files None) ≡ Some r
         → ltb (month_of_slot s) M.floor ≡ false → r ≤ highest_rate
-    go none q x t = low s r (rw t x)
-    go (some y) q x t = in-low s (run_start (records_in f.body)) (records_in f.body) g r (q ∙ x)
+    go None q x t = low s r (rw t x)
+    go (Some y) q x t = in-low s (run_start (records_in f.body)) (records_in f.body) g r (q ∙ x)
 
 pub put : PutAgrees
 unfolding held_count

@@ -1,8 +1,8 @@
 -- A file that a unit takes can be put: its records are a run of slots before the end of 2099.
+use Rattle.std.specs.Prelude.{Option, None, Some}
 use mathlib.Core.Path.{◌≡◌, refl}
 use mathlib.Core.Bool.{true, ◌&&◌, false≢true}
 use mathlib.Core.List.{List, [], ◌∷◌}
-use mathlib.Core.Option.{Option, none, some}
 use Prim.Native.Nat.{ℕ, suc, ◌+◌, ◌≤◌, ◌<◌}
 use native.Mathlib.Omega.{arith}
 use lib.ListN.{length}
@@ -30,7 +30,7 @@ own-start s (r ∷ rs) g = (refl, g.1, rw g.0 g.2)
 
 -- ---- 203: 7 days at the most
 
-start_is : (s : List ℕ) (k : ℕ) → start_slot s ≡ some k → slot_of (seconds_of (whole_minute s)) ≡ k
+start_is : (s : List ℕ) (k : ℕ) → start_slot s ≡ Some k → slot_of (seconds_of (whole_minute s)) ≡ k
 unfolding start_slot
 start_is s k e = (cond-some (digits 12 s && exists (whole_minute s) && half_hour s) (slot_of (seconds_of (whole_minute s))) k e).1
 
@@ -39,8 +39,8 @@ unfolding update_dates
 update-good r e few low = go (start_slot r.start) refl (both (in_time (length r.rates) (start_slot r.start)) (exists r.next) e).0
   where
     go : (o : Option ℕ) → start_slot r.start ≡ o → in_time (length r.rates) o ≡ true → GoodRecord r
-    go none q t = absurd (false≢true t)
-    go (some s) q t =
+    go None q t = absurd (false≢true t)
+    go (Some s) q t =
         let is : start_of r ≡ s = start_is r.start s q in
         let below = start-below r.start s q in
         let begins : start_of r < slot_count = omega arith in

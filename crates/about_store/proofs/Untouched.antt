@@ -1,4 +1,5 @@
 -- A put changes no byte but in the blocks of months from floor on that it covers, and no held month's block.
+use Rattle.std.specs.Prelude.{Option, Some, None}
 use mathlib.Core.Path.{◌≡◌, refl, sym, ◌∙◌, subst}
 use mathlib.Core.Logic.{⊎_elim}
 use mathlib.Core.Bool.{Bool, true, false, cond, or-true}
@@ -19,9 +20,6 @@ use Rattle.pool.specs.Blocks.{is_free, free_count, find_of, given}
 use Rattle.pool.specs.Held.{InBlock}
 use Rattle.pool.specs.declared.Pool.{Pool}
 use Rattle.pool.specs.declared.Taken.{Taken}
-use Rattle.pool.specs.declared.Found.{Found}
-use Rattle.pool.specs.declared.Found.TheVariants.{At, Nothing}
-use Rattle.pool.specs.declared.Place.TheVariants.{In}
 use Rattle.pool.proofs.Laws.{find_at, take-full, take_in}
 use Rattle.schedule.specs.Stored.{Stored, Piece, place, blank, opened, open_by, open_month, lay_by, lay_piece, put_piece, piece_in, meets, can_put, put_run}
 use Rattle.about_store.specs.Run.{put_records}
@@ -63,7 +61,7 @@ open_leaves m st long = go (find_of st.pool m)
     Open : Taken → Type 0
     Open t = Leaves true m st (opened t.pool t.place st.store)
 
-    filled : (c : ℕ) → c < block_count → is_free st.pool c ≡ true → Open (record { pool = given st.pool m c; place = In c })
+    filled : (c : ℕ) → c < block_count → is_free st.pool c ≡ true → Open (record { pool = given st.pool m c; place = Some c })
     filled c l free = record {
       keeps = given-keeps st.pool m c long l free;
       size = length-sets st.store (place c 0) blank;
@@ -73,9 +71,9 @@ open_leaves m st long = go (find_of st.pool m)
           k (omega (arith, length-blank));
     }
 
-    go : (o : Found) → Leaves true m st (open_by o m st)
-    go (At c) = stays true m st long
-    go Nothing =
+    go : (o : Option ℕ) → Leaves true m st (open_by o m st)
+    go (Some c) = stays true m st long
+    go None =
         ⊎_elim (λ z. subst Open (sym (take-full st.pool m z)) (stays true m st long))
         (λ z. let w = take_in st.pool m z in subst Open (sym w.3) (filled w.0 w.1 w.2))
         (eq-zero-or-pos (free_count st.pool))
@@ -85,9 +83,9 @@ lay_leaves : (q : Piece) (st : Stored) → length st.pool.months ≡ block_count
 unfolding lay_piece
 lay_leaves q st long fits = go (find_of st.pool q.month) refl
   where
-    go : (o : Found) → find_of st.pool q.month ≡ o → Leaves true q.month st (lay_by o q st)
-    go Nothing e = stays true q.month st long
-    go (At c) e = record {
+    go : (o : Option ℕ) → find_of st.pool q.month ≡ o → Leaves true q.month st (lay_by o q st)
+    go None e = stays true q.month st long
+    go (Some c) e = record {
       keeps = keeps_same st.pool long;
       size = length-sets st.store (place c q.from) (rate_bytes q.rates);
       leaves = λ b i k n.

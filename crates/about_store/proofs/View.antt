@@ -1,9 +1,9 @@
 -- What pool and store stand for: a floor, the months held, and the rate of each slot of a month; and what a put piece does to it.
 -- The machine's files are not seen here.
+use Rattle.std.specs.Prelude.{Some, None, Option}
 use mathlib.Core.Path.{◌≡◌, refl, sym, ap, ◌∙◌, subst}
 use mathlib.Core.Logic.{◌⊎◌, inl, inr, ⊎_elim, ◌↔◌}
 use mathlib.Core.Bool.{Bool, true, false, cond, ◌&&◌, ◌||◌, true≢false}
-use mathlib.Core.Option.{Option, none, some}
 use Prim.Native.Nat.{ℕ, ◌+◌, ◌-◌, ◌^◌, ◌≤◌, ◌<◌}
 use native.Mathlib.Omega.{arith}
 use lib.Dec.{leb, ltb, eqb}
@@ -16,9 +16,6 @@ use Rattle.rules.specs.Machine.{count_below}
 use Rattle.laws.proofs.Tests.{isnt, neither, either}
 use Rattle.pool.specs.Blocks.{is_free, free_count, find_of, given}
 use Rattle.pool.specs.Held.{InBlock, Held, Sound}
-use Rattle.pool.specs.declared.Found.{Found}
-use Rattle.pool.specs.declared.Found.TheVariants.{At, Nothing}
-use Rattle.pool.specs.declared.Place.TheVariants.{In}
 use Rattle.pool.specs.declared.Taken.{Taken}
 use Rattle.pool.proofs.Laws.{find_at, take_in, given-held, given-sound}
 use Rattle.schedule.specs.Stored.{Stored, Piece, place, blank, opened, open_by, open_month}
@@ -40,7 +37,7 @@ pub record Shows (st : Stored) (v : View) : Type 0 where
   pub held : (m : ℕ) → Held st.pool m ↔ (v.held m ≡ true)
   pub bytes : (m b i : ℕ) → InBlock st.pool m b → i < block_length → get_or st.store (place b i) no_rate ≡ to_byte (v.says m i)
   -- of the view alone: a month that is not held has no rates
-  pub silent : (m i : ℕ) → v.held m ≡ false → v.says m i ≡ none
+  pub silent : (m i : ℕ) → v.held m ≡ false → v.says m i ≡ None
 
 -- ---- what is done to a view
 
@@ -53,7 +50,7 @@ abbrev pub piece_covers : ℕ → ℕ → Piece → Bool
 piece_covers k i q = eqb k q.month && (leb q.from i && ltb i (q.from + length q.rates))
 
 abbrev pub piece_says : ℕ → Piece → Option ℕ
-piece_says i q = some (get_or q.rates (i - q.from) 0)
+piece_says i q = Some (get_or q.rates (i - q.from) 0)
 
 -- the piece's slots have its rates
 abbrev pub lay_view : Piece → View → View
@@ -65,7 +62,7 @@ module _ (st : Stored) (v : View) (h : Shows st v) where
   pub count-view : free_count st.pool + count_below month_count v.held ≡ block_count
   count-view = free-held st.pool v.floor h.sound v.held h.held
 
-  pub not-held : (m : ℕ) → find_of st.pool m ≡ Nothing → v.held m ≡ false
+  pub not-held : (m : ℕ) → find_of st.pool m ≡ None → v.held m ≡ false
   not-held m e = isnt (λ t. found-not st.pool v.floor m h.sound e ((h.held m).1 t))
 
   -- a month that is held, held too
@@ -78,7 +75,7 @@ module _ (st : Stored) (v : View) (h : Shows st v) where
 
   module _ (m : ℕ) (from : v.floor ≤ m) (until : m ≤ last_month) where
     -- block b, which was free, is given to the month and filled with 255
-    took : (b : ℕ) → b < block_count → is_free st.pool b ≡ true → v.held m ≡ false → Shows (opened (given st.pool m b) (In b) st.store) (open_view m v)
+    took : (b : ℕ) → b < block_count → is_free st.pool b ≡ true → v.held m ≡ false → Shows (opened (given st.pool m b) (Some b) st.store) (open_view m v)
     took b l free n = record {
       months = length-set st.pool.months b m ∙ h.months;
       bits = given-bits st.pool m b;
@@ -108,7 +105,7 @@ module _ (st : Stored) (v : View) (h : Shows st v) where
         from' x e = (either_way x).1 (⊎_elim (λ q. inl (eqb-true x m q)) (λ q. inr ((h.held x).1 q)) (either (eqb x m) (v.held x) e))
 
         at_byte : (x c i : ℕ) → i < block_length → ((x ≡ m) × (c ≡ b)) ⊎ ((c ≡ b → ⊥) × InBlock st.pool x c)
-            → get_or (opened (given st.pool m b) (In b) st.store).store (place c i) no_rate ≡ to_byte (v.says x i)
+            → get_or (opened (given st.pool m b) (Some b) st.store).store (place c i) no_rate ≡ to_byte (v.says x i)
         at_byte x c i j (inl w) =
             ap (λ (k : ℕ). get_or (sets st.store (place b 0) blank) (place k i) no_rate) w.1
             ∙ fill_here st.store blank b i no_rate length-blank j (omega (arith, h.full))
@@ -123,9 +120,9 @@ module _ (st : Stored) (v : View) (h : Shows st v) where
         room : v.held m ≡ false → 0 < free_count st.pool
         room n = omega (arith, count-view, count-open month_count m v.held (omega arith) n)
 
-        go : (o : Found) → find_of st.pool m ≡ o → Shows (open_by o m st) (open_view m v)
-        go (At b) e = subst (λ (w : View). Shows st w) (held-open m ((h.held m).0 (b, find_at st.pool m b e))) h
-        go Nothing e =
+        go : (o : Option ℕ) → find_of st.pool m ≡ o → Shows (open_by o m st) (open_view m v)
+        go (Some b) e = subst (λ (w : View). Shows st w) (held-open m ((h.held m).0 (b, find_at st.pool m b e))) h
+        go None e =
             let n = not-held m e in
             let w = take_in st.pool m (room n) in
             subst (λ (t : Taken). Shows (opened t.pool t.place st.store) (open_view m v)) (sym w.3) (took w.0 w.1 w.2 n)

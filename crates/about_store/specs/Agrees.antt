@@ -1,6 +1,5 @@
 -- When pool and store agree with the plain machine: the same months are held, and each held month's block has the machine's rates.
-use Rattle.std.specs.Prelude.{ℕ, zero, suc, ◌+◌, ◌^◌, ◌≤◌, ◌<◌, ◌≡◌, ◌↔◌, true, cond, List, [], ◌∷◌, ltb, length, get_or}
-use Rattle.std.proofs.Math.Option.{Option, none, some}
+use Rattle.std.specs.Prelude.{ℕ, zero, suc, ◌+◌, ◌^◌, ◌≤◌, ◌<◌, ◌≡◌, ◌↔◌, true, cond, List, [], ◌∷◌, ltb, length, get_or, Option, None, Some}
 use Rattle.rules.specs.Calendar.{first_slot, slots_of_month, last_month}
 use Rattle.rules.specs.Body.{highest_rate}
 use Rattle.rules.specs.Store.{block_length, store_length, block_of, no_rate, to_byte, Held as HeldMonth, block_count}
@@ -10,7 +9,7 @@ use Rattle.schedule.specs.Stored.{Stored, place}
 
 -- the machine's rate of slot i of month m; none past the month's end
 unfoldable pub rate_at : Machine → ℕ → ℕ → Option ℕ
-rate_at M m i = cond (ltb i (slots_of_month m)) (rate_of M (first_slot m + i)) none
+rate_at M m i = cond (ltb i (slots_of_month m)) (rate_of M (first_slot m + i)) None
 
 -- 'byte i is the rate of its slot i, 255 where no file gave one': the bytes that the machine's rates of month m make, k from slot i on
 unfoldable pub bytes_from : Machine → ℕ → ℕ → ℕ → List ℕ
@@ -39,4 +38,4 @@ pub record Agrees (st : Stored) (M : Machine) : Type 0 where
   -- each byte of a held month's block is the machine's rate of its slot, and 255 past the month's end
   pub bytes : (m b i : ℕ) → InBlock st.pool m b → i < block_length → get_or st.store (place b i) no_rate ≡ to_byte (rate_at M m i)
   -- no rate reads as 255
-  pub rates : (s r : ℕ) → rate_of M s ≡ some r → r ≤ highest_rate
+  pub rates : (s r : ℕ) → rate_of M s ≡ Some r → r ≤ highest_rate

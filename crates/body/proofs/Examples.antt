@@ -1,4 +1,5 @@
 -- A 203 body of three rates, and what is kept of it; with a rate of 101 it is refused. Computed from the definitions.
+use Rattle.std.specs.Prelude.{Ok, Err}
 use mathlib.Core.Path.{◌≡◌, refl}
 use mathlib.Core.List.{List, ◌∷◌, ◌++◌}
 use Prim.Native.Nat.{ℕ}
@@ -11,7 +12,6 @@ use Rattle.rules.specs.declared.Cause.{Cause}
 use Rattle.rules.specs.declared.Format.TheVariants.{F203}
 use Rattle.rules.specs.Reading.{summary_of, reading_of}
 use Rattle.body.specs.Reading.{name_of}
-use Rattle.rules.specs.declared.Reading.TheVariants.{Read, Refused}
 
 plant : List ℕ
 plant = decimal 26 12345678901234567890123455
@@ -25,14 +25,14 @@ body rate =
     ++ (decimal 12 202603270930 ++ (decimal 5 3 ++ (100 ∷ 40 ∷ rate ∷ 2 ∷ (decimal 2 18 ++ decimal 14 20260327113000))))))
 
 three-rates : reading_of (with_body (name_of F203 0 plant) (parse_body F203 (body 28)))
-    ≡ Read
+    ≡ Ok
     (record { format = F203; segment = 0; records = 1; rates = 3; start = 459955; flag = 2; next_access = 827926200; result = 0 })
 unfolding reading_of summary_of stages dates_hold rates_hold checksums_hold plants_hold update_dates sum checksum_of total_rates
     rates_of size_of record_shape record_at parse_records counted parse_body every days_of_month first_day exists seconds_of start_slot
     decimal all_at_most value_from same_bytes plant body
 three-rates = refl
 
-too_much : reading_of (with_body (name_of F203 0 plant) (parse_body F203 (body 101))) ≡ Refused Cause.Rate
+too_much : reading_of (with_body (name_of F203 0 plant) (parse_body F203 (body 101))) ≡ Err Cause.Rate
 unfolding reading_of summary_of stages dates_hold rates_hold checksums_hold plants_hold update_dates sum checksum_of total_rates
     rates_of size_of record_shape record_at parse_records counted parse_body every days_of_month first_day exists seconds_of start_slot
     decimal all_at_most value_from same_bytes plant body

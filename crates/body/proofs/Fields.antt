@@ -14,8 +14,7 @@ use Rattle.layout.specs.Records.{checksum_for}
 use Rattle.layout.proofs.Counts.{checksum-is}
 use Rattle.form.specs.Walk.{records_from}
 use Rattle.form.proofs.Walk.{records-end, records-step}
-use Rattle.body.specs.Records.{rates_fit, checksum_fits, holds}
-use Rattle.body.specs.declared.stages.Stage.TheVariants.{Plants}
+use Rattle.body.specs.Records.{rates_fit, checksum_fits, plant_fits}
 
 module _ (f : Format) (s : List ℕ) (n : ℕ) (n≡ : n ≡ rates_of s) where
   pub rates-fit : {b : Bool} → b ≡ all_at_most highest_rate (part s 53 (53 + n - 53)) → b ≡ rates_fit (record_at f s)
@@ -31,21 +30,21 @@ module _ (f : Format) (s : List ℕ) (n : ℕ) (n≡ : n ≡ rates_of s) where
       let m≡' = m≡ ∙ ap (checksum_for (part s 36 12)) (part-to s 53 n) ∙ checksum-is (part s 36 12) (part s 53 n) short in
       rw (← n≡, ← fl≡, ← q≡, ← m≡')
 
-pub plant-fits : (f : Format) (s plant : List ℕ) {b : Bool} → b ≡ same_bytes (part s 10 26) plant → b ≡ holds Plants plant (record_at f s)
+pub plant_is : (f : Format) (s plant : List ℕ) {b : Bool} → b ≡ same_bytes (part s 10 26) plant → b ≡ plant_fits plant (record_at f s)
 unfolding record_at
-plant-fits f s plant e = e
+plant_is f s plant e = e
 
--- ---- a stage over the records: t is what is left, `left` how many records, z the size of the first
+-- ---- a stage over the records: t is what is left, `left` how many records, k how many after the first, z the first one's size
 
 module _ (p : Record → Bool) (f : Format) (t : List ℕ) where
   pub every-end : (left : ℕ) → left ≤ 0 → every p (records_from f left t) ≡ true
   unfolding every
   every-end left h = rw (records-end f t left h) refl
 
-  pub every-step : (left : ℕ) {z : ℕ} {b : Bool} → 0 < left → z ≡ size_of f t → p (record_at f t) ≡ b
-      → every p (records_from f left t) ≡ (b && every p (records_from f (left - 1) (take (length t - z) (drop z t))))
+  pub every-step : (left : ℕ) {k z : ℕ} {b : Bool} → left ≡ suc k → z ≡ size_of f t → p (record_at f t) ≡ b
+      → every p (records_from f left t) ≡ (b && every p (records_from f k (take (length t - z) (drop z t))))
   unfolding every
-  every-step left h z≡ e = rw (records-step f t left h z≡, e) refl
+  every-step left left≡ z≡ e = rw (records-step f t left left≡ z≡, e) refl
 
   pub every-stop : (left : ℕ) → 0 < left → p (record_at f t) ≡ false → every p (records_from f left t) ≡ false
   unfolding every records_from

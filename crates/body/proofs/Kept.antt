@@ -1,9 +1,9 @@
 -- What is kept of an accepted schedule body is what `summary_of` says of its file.
+use Rattle.std.specs.Prelude.{Some, None, Option}
 use Prim.Native.Nat.{ℕ, suc, ◌+◌, ◌-◌, ◌*◌, ◌%◌, ◌≤◌}
 use mathlib.Core.Path.{◌≡◌, ◌∙◌, refl, sym, ap}
 use mathlib.Core.Bool.{Bool, true, false≢true}
 use mathlib.Core.List.{List, [], ◌∷◌}
-use mathlib.Core.Option.{Option, none, some}
 use native.Mathlib.Nat.{add-zero}
 use native.Mathlib.Omega.{arith}
 use lib.Dec.{lit<}
@@ -16,8 +16,6 @@ use Rattle.rules.specs.File.{whole_month, months_from, in_time, update_dates, re
 use Rattle.rules.specs.Lister.{total_rates}
 use Rattle.rules.specs.declared.Format.{Format}
 use Rattle.rules.specs.declared.Format.TheVariants.{F201, F202, F203, F301}
-use Rattle.calendar.specs.Moments.{moment_of}
-use Rattle.calendar.specs.declared.dates.Moment.TheVariants.{At, Missing}
 use Rattle.form.specs.Walk.{shaped, records_from, Whole}
 use Rattle.body.specs.Records.{or_zero, access_at}
 use Rattle.rules.specs.Reading.{first_start, access_of, summary_of}
@@ -30,7 +28,7 @@ use Rattle.calendar.proofs.Begins.{begins-half}
 use Rattle.layout.proofs.Starts.{is-start, start-some, moment-some}
 use Rattle.form.proofs.Walk.{count-positive, count-bound, whole-start, records-step}
 use Rattle.form.proofs.Standing.{start-digits, records-count, rates-total}
-use Rattle.body.proofs.Starts.{segment-value, next-digits, or_at, or-missing}
+use Rattle.body.proofs.Starts.{segment-value, next-digits}
 
 -- ---- flag, start and next access
 
@@ -41,7 +39,7 @@ flag_is s n n≡ = rw (n≡, get_or-take 1 (drop (53 + rates_of s) s) 0 0 (lit< 
 -- the first record of a body
 first-record : (f : Format) (s : List ℕ)
     → records_from f (count_of f) s ≡ record_at f s ∷ records_from f (count_of f - 1) (take (length s - size_of f s) (drop (size_of f s) s))
-first-record f s = records-step f s (count_of f) (count-positive f) refl
+first-record f s = records-step f s (count_of f) (omega (arith, count-positive f)) refl
 
 months-first : (m : ℕ) (rs : List Record) {r : Record} {others : List Record} → rs ≡ r ∷ others → months_from m rs ≡ true → whole_month m r ≡ true
 unfolding months_from
@@ -65,8 +63,8 @@ update-start s h =
     go n t (start_slot t) refl (both (in_time n (start_slot t)) (exists (part s (53 + rates_of s + 1 + 2) 14)) h).0
   where
     go : (n : ℕ) (t : List ℕ) (o : Option ℕ) → start_slot t ≡ o → in_time n o ≡ true → (exists (whole_minute t) ≡ true) × (half_hour t ≡ true)
-    go n t none e i = absurd (false≢true i)
-    go n t (some k) e i = let r = is-start t e in (r.1, r.2)
+    go n t None e i = absurd (false≢true i)
+    go n t (Some k) e i = let r = is-start t e in (r.1, r.2)
 
 next-is : (s : List ℕ) → Whole F203 s → update_dates (record_at F203 s) ≡ true → or_zero (moment (record_at F203 s).next) ≡ seconds_of (record_at F203 s).next
 unfolding update_dates record_at
@@ -137,10 +135,6 @@ module _ (s : List ℕ) (n : ℕ) (n≡ : n ≡ rates_of s) where
   unfolding record_at
   next-part = part-to s (53 + n + 1 + 2) 14 ∙ rw n≡ refl
 
-  pub next-at-some : (x : ℕ) → At x ≡ moment_of (moment (part s (53 + n + 1 + 2) (53 + n + 1 + 2 + 14 - (53 + n + 1 + 2))))
+  pub next-at : (x : ℕ) → x ≡ or_zero (moment (part s (53 + n + 1 + 2) (53 + n + 1 + 2 + 14 - (53 + n + 1 + 2))))
       → x ≡ or_zero (moment (record_at F203 s).next)
-  next-at-some x e = or_at (moment (record_at F203 s).next) x (rw next-part at e)
-
-  pub next-at-none : Missing ≡ moment_of (moment (part s (53 + n + 1 + 2) (53 + n + 1 + 2 + 14 - (53 + n + 1 + 2))))
-      → 0 ≡ or_zero (moment (record_at F203 s).next)
-  next-at-none e = or-missing (moment (record_at F203 s).next) (rw next-part at e)
+  next-at x e = rw next-part at e

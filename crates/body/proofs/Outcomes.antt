@@ -1,9 +1,9 @@
 -- Laws of reading: which answer each stage's result gives, and that the creation time of a name does not matter to its body.
+use Rattle.std.specs.Prelude.{Result, Ok, Err, Option, None, Some}
 use Prim.Native.Nat.{ℕ, ◌-◌, ◌%◌}
 use mathlib.Core.Path.{◌≡◌, ◌∙◌, refl, sym}
 use mathlib.Core.Bool.{Bool, true, false, cond, false≢true}
 use mathlib.Core.List.{List, []}
-use mathlib.Core.Option.{Option, none, some}
 use lib.Dec.{eqb}
 use lib.ListN.{length, get_or, take, drop}
 use borrow.Author.Tests.{eqb-true}
@@ -17,34 +17,31 @@ use Rattle.rules.specs.declared.Format.{Format}
 use Rattle.rules.specs.declared.Format.TheVariants.{F201, F202, F203, F301}
 use Rattle.form.specs.Walk.{shaped, records_from, registered}
 use Rattle.form.proofs.Walk.{rest-is}
-use Rattle.body.specs.Records.{holds}
+use Rattle.body.specs.Records.{rates_fit, checksum_fits, plant_fits}
 use Rattle.rules.specs.Reading.{summary_of, reading_of}
 use Rattle.body.specs.Reading.{name_of, schedule_file}
 use Rattle.rules.specs.declared.Summary.{Summary}
-use Rattle.rules.specs.declared.Reading.{Reading}
-use Rattle.rules.specs.declared.Reading.TheVariants.{Read, Refused}
 use Rattle.laws.proofs.Tests.{both}
 use Rattle.laws.proofs.Bytes.{part-rest}
-use Rattle.body.specs.declared.stages.Stage.TheVariants.{Rates, Checksums, Plants}
 use Rattle.body.proofs.Starts.{segment-value}
 
 -- the answer of the stages 10 to 13, each of which passed or did not
-abbrev pub answer : Bool → Bool → Bool → Bool → Reading → Reading
-answer false b c d o = Refused Cause.Date
-answer true false c d o = Refused Cause.Rate
-answer true true false d o = Refused Cause.Checksum
-answer true true true false o = Refused Cause.RecordPlant
+abbrev pub answer : Bool → Bool → Bool → Bool → Result Summary Cause → Result Summary Cause
+answer false b c d o = Err Cause.Date
+answer true false c d o = Err Cause.Rate
+answer true true false d o = Err Cause.Checksum
+answer true true true false o = Err Cause.RecordPlant
 answer true true true true o = o
 
 stages-are : (n : Name) (b : Body)
     → reading_of (stages n b)
-    ≡ answer (dates_hold n b) (rates_hold b) (checksums_hold b) (plants_hold n b) (Read (summary_of (record { name = n; body = b })))
+    ≡ answer (dates_hold n b) (rates_hold b) (checksums_hold b) (plants_hold n b) (Ok (summary_of (record { name = n; body = b })))
 unfolding stages reading_of
 stages-are n b = go (dates_hold n b) (rates_hold b) (checksums_hold b) (plants_hold n b) (record { name = n; body = b })
   where
     go : (a b c d : Bool) (f : File)
         → reading_of (need a (refuse Cause.Date) (need b (refuse Cause.Rate) (need c (refuse Cause.Checksum) (need d (refuse Cause.RecordPlant) (file f)))))
-        ≡ answer a b c d (Read (summary_of f))
+        ≡ answer a b c d (Ok (summary_of f))
     go false b c d f = refl
     go true false c d f = refl
     go true true false d f = refl
@@ -61,17 +58,17 @@ dates-same F301 n m rs e = refl
 -- ---- a schedule
 
 module _ (f : Format) (segment : ℕ) (plant s : List ℕ) (i : is_schedule f ≡ true) where
-  pub no-form : shaped f (count_of f) s ≡ false → Refused Cause.Form ≡ reading_of (with_body (name_of f segment plant) (parse_rest f s))
+  pub no-form : shaped f (count_of f) s ≡ false → Err Cause.Form ≡ reading_of (with_body (name_of f segment plant) (parse_rest f s))
   unfolding reading_of
   no-form e = rw (rest-is f s i, e) refl
 
   module _ (e : shaped f (count_of f) s ≡ true) where
     pub schedule-is : reading_of (with_body (name_of f segment plant) (parse_rest f s))
         ≡ answer (record_dates (name_of f segment []) f (records_from f (count_of f) s))
-        (every (holds Rates plant) (records_from f (count_of f) s))
-        (every (holds Checksums plant) (records_from f (count_of f) s))
-        (every (holds Plants plant) (records_from f (count_of f) s))
-        (Read (summary_of (schedule_file f segment [] (records_from f (count_of f) s))))
+        (every rates_fit (records_from f (count_of f) s))
+        (every checksum_fits (records_from f (count_of f) s))
+        (every (plant_fits plant) (records_from f (count_of f) s))
+        (Ok (summary_of (schedule_file f segment [] (records_from f (count_of f) s))))
     unfolding dates_hold rates_hold checksums_hold plants_hold summary_of
     schedule-is =
         rw (rest-is f s i, e)
@@ -79,43 +76,43 @@ module _ (f : Format) (segment : ℕ) (plant s : List ℕ) (i : is_schedule f �
         ∙ rw (dates-same f (name_of f segment plant) (name_of f segment []) (records_from f (count_of f) s) refl) refl)
 
     pub no-dates : false ≡ record_dates (name_of f segment []) f (records_from f (count_of f) s)
-        → Refused Cause.Date ≡ reading_of (with_body (name_of f segment plant) (parse_rest f s))
+        → Err Cause.Date ≡ reading_of (with_body (name_of f segment plant) (parse_rest f s))
     no-dates h = sym (schedule-is ∙ rw (sym h) refl)
 
     module _ (d : true ≡ record_dates (name_of f segment []) f (records_from f (count_of f) s)) where
-      pub no-rates : false ≡ every (holds Rates plant) (records_from f (count_of f) s)
-          → Refused Cause.Rate ≡ reading_of (with_body (name_of f segment plant) (parse_rest f s))
+      pub no-rates : false ≡ every rates_fit (records_from f (count_of f) s)
+          → Err Cause.Rate ≡ reading_of (with_body (name_of f segment plant) (parse_rest f s))
       no-rates h = sym (schedule-is ∙ rw (sym d, sym h) refl)
 
-      module _ (r : true ≡ every (holds Rates plant) (records_from f (count_of f) s)) where
-        pub no-checksum : false ≡ every (holds Checksums plant) (records_from f (count_of f) s)
-            → Refused Cause.Checksum ≡ reading_of (with_body (name_of f segment plant) (parse_rest f s))
+      module _ (r : true ≡ every rates_fit (records_from f (count_of f) s)) where
+        pub no-checksum : false ≡ every checksum_fits (records_from f (count_of f) s)
+            → Err Cause.Checksum ≡ reading_of (with_body (name_of f segment plant) (parse_rest f s))
         no-checksum h = sym (schedule-is ∙ rw (sym d, sym r, sym h) refl)
 
-        module _ (q : true ≡ every (holds Checksums plant) (records_from f (count_of f) s)) where
-          pub no-plant : false ≡ every (holds Plants plant) (records_from f (count_of f) s)
-              → Refused Cause.RecordPlant ≡ reading_of (with_body (name_of f segment plant) (parse_rest f s))
+        module _ (q : true ≡ every checksum_fits (records_from f (count_of f) s)) where
+          pub no-plant : false ≡ every (plant_fits plant) (records_from f (count_of f) s)
+              → Err Cause.RecordPlant ≡ reading_of (with_body (name_of f segment plant) (parse_rest f s))
           no-plant h = sym (schedule-is ∙ rw (sym d, sym r, sym q, sym h) refl)
 
-          pub accepted : true ≡ every (holds Plants plant) (records_from f (count_of f) s)
+          pub accepted : true ≡ every (plant_fits plant) (records_from f (count_of f) s)
               → {x : Summary} → x ≡ summary_of (schedule_file f segment [] (records_from f (count_of f) s))
-              → Read x ≡ reading_of (with_body (name_of f segment plant) (parse_rest f s))
+              → Ok x ≡ reading_of (with_body (name_of f segment plant) (parse_rest f s))
           accepted h x≡ = sym (schedule-is ∙ rw (sym d, sym r, sym q, sym h, sym x≡) refl)
 
 -- ---- a registration
 
 module _ (segment : ℕ) (plant s : List ℕ) where
-  registered-is : parse_rest F301 s ≡ cond (registered s) (some (registration (part s 0 26) (get_or s 26 0))) none
+  registered-is : parse_rest F301 s ≡ cond (registered s) (Some (registration (part s 0 26) (get_or s 26 0))) None
   unfolding parse_registration registered
   registered-is = refl
 
-  pub no-registration : registered s ≡ false → Refused Cause.Form ≡ reading_of (with_body (name_of F301 segment plant) (parse_rest F301 s))
+  pub no-registration : registered s ≡ false → Err Cause.Form ≡ reading_of (with_body (name_of F301 segment plant) (parse_rest F301 s))
   unfolding reading_of
   no-registration e = rw (registered-is, e) refl
 
   pub registration-is : registered s ≡ true → reading_of (with_body (name_of F301 segment plant) (parse_rest F301 s))
       ≡ answer true true true (same_bytes (part s 0 26) plant)
-      (Read
+      (Ok
       (record { format = F301; segment = segment % 10000; records = 1; rates = 0; start = 0; flag = 0; next_access = 0; result = get_or s 26 0 }))
   unfolding dates_hold rates_hold checksums_hold plants_hold summary_of
   registration-is e =
@@ -123,11 +120,11 @@ module _ (segment : ℕ) (plant s : List ℕ) where
       (stages-are (name_of F301 segment plant) (registration (part s 0 26) (get_or s 26 0)) ∙ rw (segment-value segment) refl)
 
   pub no-registered-plant : registered s ≡ true → false ≡ same_bytes (part s 0 26) plant
-      → Refused Cause.RecordPlant ≡ reading_of (with_body (name_of F301 segment plant) (parse_rest F301 s))
+      → Err Cause.RecordPlant ≡ reading_of (with_body (name_of F301 segment plant) (parse_rest F301 s))
   no-registered-plant e h = sym (registration-is e ∙ rw (sym h) refl)
 
   pub registered-plant : registered s ≡ true → true ≡ same_bytes (part s 0 26) plant
-      → Read
+      → Ok
       (record { format = F301; segment = segment % 10000; records = 1; rates = 0; start = 0; flag = 0; next_access = 0; result = get_or s 26 0 })
       ≡ reading_of (with_body (name_of F301 segment plant) (parse_rest F301 s))
   registered-plant e h = sym (registration-is e ∙ rw (sym h) refl)
@@ -139,7 +136,7 @@ registered-length s e = eqb-true (length s) 27 (both (eqb (length s) 27) (all_di
 -- ---- the whole body
 
 module _ (f : Format) (n : Name) (body : List ℕ) where
-  pub no-count : false ≡ counted f body → Refused Cause.Form ≡ reading_of (with_body n (parse_body f body))
+  pub no-count : false ≡ counted f body → Err Cause.Form ≡ reading_of (with_body n (parse_body f body))
   unfolding parse_body reading_of
   no-count e = rw (sym e) refl
 
@@ -178,5 +175,5 @@ module _ (f : Format) (segment plant here there : List ℕ) where
 
   pub created-free : (b : Option Body) → reading_of (with_body one b) ≡ reading_of (with_body other b)
   unfolding reading_of
-  created-free none = refl
-  created-free (some b) = body-free b
+  created-free None = refl
+  created-free (Some b) = body-free b

@@ -1,9 +1,9 @@
 -- Laws of the dates of a record: its start, its month and its next access, and the months of the records that are left.
+use Rattle.std.specs.Prelude.{Some, None, Option}
 use Prim.Native.Nat.{ℕ, zero, suc, ◌+◌, ◌-◌, ◌%◌, ◌≤◌, ◌<◌}
 use mathlib.Core.Path.{◌≡◌, ◌∙◌, refl, sym, ap}
 use mathlib.Core.Bool.{Bool, true, false, ◌&&◌, and-true, false≢true}
 use mathlib.Core.List.{List, []}
-use mathlib.Core.Option.{Option}
 use native.Mathlib.Numerals.{add-one}
 use native.Mathlib.Omega.{arith}
 use lib.Dec.{eqb, lit≤}
@@ -16,28 +16,18 @@ use Rattle.rules.specs.File.{month_begins, whole_month, months_from, update_date
 use Rattle.rules.specs.declared.Format.{Format}
 use Rattle.rules.specs.declared.Format.TheVariants.{F201, F202, F203}
 use Rattle.laws.proofs.Bytes.{part_length}
-use Rattle.calendar.specs.Moments.{moment_of, month_begun}
-use Rattle.calendar.specs.declared.dates.Moment.TheVariants.{At, Missing}
-use Rattle.calendar.specs.declared.dates.Begun.TheVariants.{Nothing}
-use Rattle.calendar.proofs.DateLaws.{missing-none, at_some}
+use Rattle.calendar.specs.Moments.{month_begun}
 use Rattle.calendar.proofs.Begins.{begun-none}
 use Rattle.digits.proofs.Parts.{part-to, at-most-part}
 use Rattle.layout.specs.Dates.{month_holds, update_holds}
 use Rattle.form.specs.Walk.{shaped, records_from, Whole}
 use Rattle.form.proofs.Walk.{count-positive, whole-start, records-end, records-step}
 use Rattle.form.proofs.Standing.{start-digits, rates-full}
-use Rattle.body.specs.Records.{or_zero}
 use Rattle.body.specs.Reading.{name_of}
 
 pub segment-value : (n : ℕ) → value (decimal 4 n) ≡ n % 10000
 unfolding decimal value_from
 segment-value n = omega arith
-
-pub or_at : (o : Option ℕ) (x : ℕ) → At x ≡ moment_of o → x ≡ or_zero o
-or_at o x e = rw (at_some o x e) refl
-
-pub or-missing : (o : Option ℕ) → Missing ≡ moment_of o → 0 ≡ or_zero o
-or-missing o e = rw (missing-none o e) refl
 
 -- ---- the fields of a record that stands at the front of s
 
@@ -48,7 +38,7 @@ module _ (f : Format) (s : List ℕ) (w : Whole f s) where
   month-holds m n n≡ e = e ∙ rw (start-digits f s w, rates-full f s w, n≡) refl
 
   -- a start that begins no month is the whole of none
-  no_whole : Nothing ≡ month_begun (part s 36 12) → (m : ℕ) → whole_month m (record_at f s) ≡ false
+  no_whole : None ≡ month_begun (part s 36 12) → (m : ℕ) → whole_month m (record_at f s) ≡ false
   unfolding whole_month record_at
   no_whole e m =
       let t = part s 36 12 in
@@ -81,10 +71,10 @@ module _ (m : ℕ) (f : Format) (t : List ℕ) where
   unfolding months_from
   months-end left h = rw (records-end f t left h) refl
 
-  pub months-step : (left : ℕ) {z : ℕ} {b : Bool} → 0 < left → z ≡ size_of f t → whole_month m (record_at f t) ≡ b
-      → months_from m (records_from f left t) ≡ (b && months_from (m + 1) (records_from f (left - 1) (take (length t - z) (drop z t))))
+  pub months-step : (left : ℕ) {k z : ℕ} {b : Bool} → left ≡ suc k → z ≡ size_of f t → whole_month m (record_at f t) ≡ b
+      → months_from m (records_from f left t) ≡ (b && months_from (m + 1) (records_from f k (take (length t - z) (drop z t))))
   unfolding months_from
-  months-step left h z≡ e = rw (records-step f t left h z≡, e, add-one m) refl
+  months-step left left≡ z≡ e = rw (records-step f t left left≡ z≡, e, add-one m) refl
 
   pub months-stop : (left : ℕ) → 0 < left → whole_month m (record_at f t) ≡ false → months_from m (records_from f left t) ≡ false
   unfolding months_from records_from
@@ -92,7 +82,7 @@ module _ (m : ℕ) (f : Format) (t : List ℕ) where
   months-stop (suc k) h e = rw e refl
 
 -- where the first record begins no month, no month serves
-pub months-none : (f : Format) (s : List ℕ) → shaped f (count_of f) s ≡ true → Nothing ≡ month_begun (part s 36 12) → (m : ℕ)
+pub months-none : (f : Format) (s : List ℕ) → shaped f (count_of f) s ≡ true → None ≡ month_begun (part s 36 12) → (m : ℕ)
     → false ≡ months_from m (records_from f (count_of f) s)
 months-none f s e n m = sym (months-stop m f s (count_of f) (count-positive f) (no_whole f s (whole-start f s e) n m))
 

@@ -11,7 +11,6 @@ ghost use Rattle.form.specs.Walk.{shaped, records_from, Whole};
 ghost use Rattle.body.specs.Records.{or_zero, access_at};
 ghost use Rattle.body.specs.Reading.{name_of, schedule_file};
 
-use calendar::Moment;
 use layout::{RATE_COUNT, RATES, START};
 use rules::{Format, Summary};
 
@@ -23,10 +22,7 @@ fn start_at(s: &[u8]) -> u32
     requires { rates_place ≤ length s.now }
     ensures { result ≡ or_zero (start_slot (part s.now start_place start_digits)) }
 {
-    match calendar::start_slot(&s[START..RATE_COUNT]) {
-        Moment::At(slot) => slot,
-        Moment::Missing => 0,
-    }
+    calendar::start_slot(&s[START..RATE_COUNT]).unwrap_or(0)
 }
 
 // The flag of the record at the front of `s`; 0 where the format has none.
@@ -53,10 +49,7 @@ fn next_at(s: &[u8]) -> u32
         + layout::FLAG_DIGITS
         + layout::CHECKSUM_DIGITS;
     let end = next + layout::NEXT_DIGITS;
-    match calendar::read_moment(&s[next..end]) {
-        Moment::At(second) => second,
-        Moment::Missing => 0,
-    }
+    calendar::read_moment(&s[next..end]).unwrap_or(0)
 }
 
 // The next access of the record at the front of `s`; 0 where the format has none.

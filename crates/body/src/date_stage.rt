@@ -9,7 +9,6 @@ ghost use Rattle.layout.specs.Places.{start_place, start_digits};
 ghost use Rattle.form.specs.Walk.{shaped, records_from, Whole};
 ghost use Rattle.body.specs.Reading.{name_of};
 
-use calendar::Begun;
 use layout::{RATE_COUNT, RATES, START};
 use rules::Format;
 
@@ -27,18 +26,15 @@ fn months_hold(first: u16, format: Format, s: &[u8]) -> bool
     ensures { result ≡ months_from first (records_from format (count_of format) s.now) }
 {
     let tail = layout::tail_digits(format);
-    let mut left = layout::record_count(format);
-    let mut month = first;
+    let end = first + layout::record_count(format) as u16;
     let mut t = s;
-    while 0 < left {
+    for month in first..end {
         let rates = layout::rate_count(t);
         if !whole_month(month, format, rates, t) {
             return false;
         }
         let size = RATES + rates as usize + tail;
         t = &t[size..];
-        month += 1;
-        left -= 1;
     }
     true
 }
@@ -48,7 +44,7 @@ fn rising_months_hold(format: Format, s: &[u8]) -> bool
     requires { shaped format (count_of format) s.now ≡ true }
     ensures { result ≡ months_from (month_at (part s.now start_place start_digits)) (records_from format (count_of format) s.now) }
 {
-    let Begun::Month(first) = calendar::month_begun(&s[START..RATE_COUNT]) else {
+    let Some(first) = calendar::month_begun(&s[START..RATE_COUNT]) else {
         return false;
     };
     months_hold(first, format, s)

@@ -12,44 +12,47 @@ ghost use Rattle.rules.specs.Reading.{reading_of};
 ghost use Rattle.rules.specs.declared.Format.TheVariants.{F301};
 ghost use Rattle.body.specs.Reading.{name_of};
 
-use crate::stages::Stage;
-use rules::{Cause, Format, Reading, Summary};
+use rules::{Cause, Format, Summary};
 
 // The records of a schedule, under a name with that format, segment and plant.
-fn read_schedule(format: Format, segment: u16, plant: &[u8], s: &[u8]) -> Reading
+fn read_schedule(format: Format, segment: u16, plant: &[u8], s: &[u8]) -> Result<Summary, Cause>
     requires { is_schedule format ≡ true }
     ensures { result ≡ reading_of (with_body (name_of format segment plant.now) (parse_rest format s.now)) }
 {
     if !form::records_stand(format, s) {
-        return Reading::Refused(Cause::Form);
+        return Err(Cause::Form);
     }
     if !date_stage::dates_hold(format, segment, s) {
-        return Reading::Refused(Cause::Date);
+        return Err(Cause::Date);
     }
-    if !stages::records_hold(Stage::Rates, format, plant, s) {
-        return Reading::Refused(Cause::Rate);
+    if !stages::records_hold(format, s, |rates, t| stages::rates_hold(format, rates, t)) {
+        return Err(Cause::Rate);
     }
-    if !stages::records_hold(Stage::Checksums, format, plant, s) {
-        return Reading::Refused(Cause::Checksum);
+    if !stages::records_hold(
+        format,
+        s,
+        |rates, t| stages::checksum_holds(format, rates, t),
+    ) {
+        return Err(Cause::Checksum);
     }
-    if !stages::records_hold(Stage::Plants, format, plant, s) {
-        return Reading::Refused(Cause::RecordPlant);
+    if !stages::records_hold(format, s, |_, t| stages::plant_holds(plant, t)) {
+        return Err(Cause::RecordPlant);
     }
-    Reading::Read(accepted::schedule_summary(format, segment, s))
+    Ok(accepted::schedule_summary(format, segment, s))
 }
 
 // A registration, under a name with that segment and plant.
-fn read_registration(segment: u16, plant: &[u8], s: &[u8]) -> Reading
+fn read_registration(segment: u16, plant: &[u8], s: &[u8]) -> Result<Summary, Cause>
     ensures { result ≡ reading_of (with_body (name_of F301 segment plant.now) (parse_rest F301 s.now)) }
 {
     if !form::registration_stands(s) {
-        return Reading::Refused(Cause::Form);
+        return Err(Cause::Form);
     }
     if !digits::same(&s[0..layout::RESULT], plant) {
-        return Reading::Refused(Cause::RecordPlant);
+        return Err(Cause::RecordPlant);
     }
     let result = s[layout::RESULT];
-    Reading::Read(Summary {
+    Ok(Summary {
         format: Format::F301,
         segment: segment % accepted::SEGMENTS,
         records: 1,
@@ -62,11 +65,11 @@ fn read_registration(segment: u16, plant: &[u8], s: &[u8]) -> Reading
 }
 
 // What `body` says under a name with that format, segment and plant, or the lowest of the causes 9 to 13 that applies.
-pub fn read_body(format: Format, segment: u16, plant: &[u8], body: &[u8]) -> Reading
+pub fn read_body(format: Format, segment: u16, plant: &[u8], body: &[u8]) -> Result<Summary, Cause>
     ensures { result ≡ reading_of (with_body (name_of format segment plant.now) (parse_body format body.now)) }
 {
     if !form::count_holds(format, body) {
-        return Reading::Refused(Cause::Form);
+        return Err(Cause::Form);
     }
     let s = &body[layout::RECORDS..];
     if layout::is_schedule(format) {

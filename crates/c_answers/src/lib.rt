@@ -3,19 +3,19 @@
 #![tactic(auto)]
 
 ghost use Rattle.std.specs.Prelude.{◌≡◌};
-ghost use Rattle.c_answers.specs.Answers.{due_numbers, ceiling_numbers, command_number, blocks_number, written_numbers, no_file, file_numbers};
+ghost use Rattle.c_answers.specs.Answers.{due_numbers, ceiling_numbers, command_number, written_numbers, file_numbers};
 
-use rules::{Ceiling, Command, Due, FreeBlocks, Reading, Written};
+use rules::{Cause, Ceiling, Due, Summary};
 
 #[repr(C)]
-#[derive(Clone, Copy)]
+#[derive(Clone, Copy, Debug, PartialEq, Eq)]
 pub struct Number {
     pub cause: u32,
     pub value: u32,
 }
 
 #[repr(C)]
-#[derive(Clone, Copy)]
+#[derive(Clone, Copy, Debug, PartialEq, Eq)]
 pub struct WrittenBytes {
     pub length: usize,
     pub cause: u32,
@@ -23,7 +23,7 @@ pub struct WrittenBytes {
 
 // kind is 0 for nothing, 1 for the update, 2 for the fixed schedule of that flag.
 #[repr(C)]
-#[derive(Clone, Copy)]
+#[derive(Clone, Copy, Debug, Default, PartialEq, Eq)]
 pub struct DueAnswer {
     pub cause: u32,
     pub kind: u32,
@@ -31,7 +31,7 @@ pub struct DueAnswer {
 }
 
 #[repr(C)]
-#[derive(Clone, Copy)]
+#[derive(Clone, Copy, Debug, Default, PartialEq, Eq)]
 pub struct CeilingAnswer {
     pub cause: u32,
     pub has_rate: u32,
@@ -40,7 +40,7 @@ pub struct CeilingAnswer {
 }
 
 #[repr(C)]
-#[derive(Clone, Copy)]
+#[derive(Clone, Copy, Debug, Default, PartialEq, Eq)]
 pub struct FileAnswer {
     pub cause: u32,
     pub format: u32,
@@ -54,7 +54,7 @@ pub struct FileAnswer {
 }
 
 #[repr(C)]
-#[derive(Clone, Copy)]
+#[derive(Clone, Copy, Debug, Default, PartialEq, Eq)]
 pub struct ErrorAnswer {
     pub text_at: usize,
     pub text_length: usize,
@@ -62,140 +62,102 @@ pub struct ErrorAnswer {
     pub code: u32,
 }
 
-// What is due.
-pub fn due_answer(due: Due) -> DueAnswer
-    ensures { result ≡ due_numbers due }
-{
-    match due {
-        Due::Update => DueAnswer {
-            cause: 0,
-            kind: 1,
-            flag: 0,
-        },
-        Due::Fixed(flag) => DueAnswer {
-            cause: 0,
-            kind: 2,
-            flag: flag as u32,
-        },
-        Due::Nothing => DueAnswer {
-            cause: 0,
-            kind: 0,
-            flag: 0,
-        },
-        Due::Refused(cause) => DueAnswer {
-            cause: rules::cause_number(cause),
-            kind: 0,
-            flag: 0,
-        },
-    }
-}
+// The command in parts, or how many blocks are free.
+impl From<Result<u32, Cause>> for Number {
+    ghost from_gives = { λ answer n. n ≡ command_number answer };
 
-// The ceiling of a slot.
-pub fn ceiling_answer(ceiling: Ceiling) -> CeilingAnswer
-    ensures { result ≡ ceiling_numbers ceiling }
-{
-    match ceiling {
-        Ceiling::Rated { rate, percent } => CeilingAnswer {
-            cause: 0,
-            has_rate: 1,
-            rate: rate as u32,
-            percent: percent as u32,
-        },
-        Ceiling::NoRate => CeilingAnswer {
-            cause: 0,
-            has_rate: 0,
-            rate: 0,
-            percent: 0,
-        },
-        Ceiling::Refused(cause) => CeilingAnswer {
-            cause: rules::cause_number(cause),
-            has_rate: 0,
-            rate: 0,
-            percent: 0,
-        },
-    }
-}
-
-// The command, in parts.
-pub fn command_number(command: Command) -> Number
-    ensures { result ≡ command_number command }
-{
-    match command {
-        Command::Parts(parts) => Number {
-            cause: 0,
-            value: parts,
-        },
-        Command::Refused(cause) => Number {
-            cause: rules::cause_number(cause),
-            value: 0,
-        },
-    }
-}
-
-// How many blocks are free.
-pub fn blocks_number(free: FreeBlocks) -> Number
-    ensures { result ≡ blocks_number free }
-{
-    match free {
-        FreeBlocks::Blocks(n) => Number { cause: 0, value: n },
-        FreeBlocks::Refused(cause) => Number {
-            cause: rules::cause_number(cause),
-            value: 0,
-        },
+    fn from(answer: Result<u32, Cause>) -> Number {
+        match answer {
+            Ok(value) => Number { cause: 0, value },
+            Err(cause) => Number {
+                cause: u32::from(cause),
+                value: 0,
+            },
+        }
     }
 }
 
 // How many bytes were written.
-pub fn written_bytes(written: Written) -> WrittenBytes
-    ensures { result ≡ written_numbers written }
-{
-    match written {
-        Written::Length(n) => WrittenBytes {
-            length: n,
-            cause: 0,
-        },
-        Written::Refused(cause) => WrittenBytes {
-            length: 0,
-            cause: rules::cause_number(cause),
-        },
+impl From<Result<usize, Cause>> for WrittenBytes {
+    ghost from_gives = { λ written n. n ≡ written_numbers written };
+
+    fn from(written: Result<usize, Cause>) -> WrittenBytes {
+        match written {
+            Ok(length) => WrittenBytes { length, cause: 0 },
+            Err(cause) => WrittenBytes {
+                length: 0,
+                cause: u32::from(cause),
+            },
+        }
     }
 }
 
-fn no_file(cause: u32) -> FileAnswer
-    ensures { result ≡ no_file cause }
-{
-    FileAnswer {
-        cause,
-        format: 0,
-        segment: 0,
-        records: 0,
-        rates: 0,
-        start: 0,
-        flag: 0,
-        next_access: 0,
-        result: 0,
+// What is due.
+impl From<Result<Option<Due>, Cause>> for DueAnswer {
+    ghost from_gives = { λ due n. n ≡ due_numbers due };
+
+    fn from(due: Result<Option<Due>, Cause>) -> DueAnswer {
+        match due {
+            Ok(Some(Due::Update)) => DueAnswer {
+                kind: 1,
+                ..DueAnswer::default()
+            },
+            Ok(Some(Due::Fixed(flag))) => DueAnswer {
+                kind: 2,
+                flag: u32::from(flag),
+                ..DueAnswer::default()
+            },
+            Ok(None) => DueAnswer::default(),
+            Err(cause) => DueAnswer {
+                cause: u32::from(cause),
+                ..DueAnswer::default()
+            },
+        }
+    }
+}
+
+// The ceiling of a slot.
+impl From<Result<Option<Ceiling>, Cause>> for CeilingAnswer {
+    ghost from_gives = { λ ceiling n. n ≡ ceiling_numbers ceiling };
+
+    fn from(ceiling: Result<Option<Ceiling>, Cause>) -> CeilingAnswer {
+        match ceiling {
+            Ok(Some(rated)) => CeilingAnswer {
+                cause: 0,
+                has_rate: 1,
+                rate: u32::from(rated.rate),
+                percent: u32::from(rated.percent),
+            },
+            Ok(None) => CeilingAnswer::default(),
+            Err(cause) => CeilingAnswer {
+                cause: u32::from(cause),
+                ..CeilingAnswer::default()
+            },
+        }
     }
 }
 
 // What a file says.
-pub fn file_answer(reading: Reading) -> FileAnswer
-    ensures { result ≡ file_numbers reading }
-{
-    match reading {
-        Reading::Read(summary) => {
-            let format = summary.format;
-            FileAnswer {
+impl From<Result<Summary, Cause>> for FileAnswer {
+    ghost from_gives = { λ reading n. n ≡ file_numbers reading };
+
+    fn from(reading: Result<Summary, Cause>) -> FileAnswer {
+        match reading {
+            Ok(summary) => FileAnswer {
                 cause: 0,
-                format: rules::format_number(format),
-                segment: summary.segment as u32,
+                format: u32::from(summary.format),
+                segment: u32::from(summary.segment),
                 records: summary.records,
                 rates: summary.rates,
                 start: summary.start,
-                flag: summary.flag as u32,
+                flag: u32::from(summary.flag),
                 next_access: summary.next_access,
-                result: summary.result as u32,
-            }
+                result: u32::from(summary.result),
+            },
+            Err(cause) => FileAnswer {
+                cause: u32::from(cause),
+                ..FileAnswer::default()
+            },
         }
-        Reading::Refused(cause) => no_file(rules::cause_number(cause)),
     }
 }

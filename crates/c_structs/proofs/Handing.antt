@@ -1,37 +1,36 @@
 -- The struct that C holds: proofs of what specs/Handing says.
+use Rattle.std.specs.Prelude.{Option, Some, None, Ok, Err}
 use Prim.Native.Nat.{ℕ}
 use mathlib.Core.Path.{◌≡◌, refl, ap, sym, ◌∙◌}
 use mathlib.Core.Bool.{Bool, true, false, ◌&&◌, false≢true}
 use lib.Dec.{eqb}
 use borrow.Author.Tests.{eqb-true}
+use Rattle.rules.specs.Causes.{Answer}
 use Rattle.rules.specs.Store.{sound_clock}
-use Rattle.rules.specs.declared.Answer.{Answer}
 use Rattle.laws.proofs.Tests.{both}
 use Rattle.plant.specs.Plant.{kept_of, is_kept, settings_of}
 use Rattle.plant.specs.declared.Settings.{Settings as Kept}
 use Rattle.plant.proofs.Laws.{valid-facts, in-range-kept, narrowed-kept, kept_whole}
-use Rattle.unit.specs.Values.{clock_of, is_sound}
+use Rattle.unit.specs.Values.{is_sound}
 use Rattle.unit.specs.declared.Unit.{Unit}
-use Rattle.unit.specs.declared.Clock.{Clock}
-use Rattle.unit.specs.declared.Clock.TheVariants.{Unset, At}
 use Rattle.unit.proofs.SoundParts.{sound-parts}
 use Rattle.c_structs.specs.Held.{settings_in, settings_held, never, clock_from, mark_of, second_of, is_held_clock, is_held_unit, opened, shut_of, handed, handed_by}
 use Rattle.c_structs.specs.Handing.{UnitBack, HeldByUnit, StructBack, NoUnit, RefusalHandsBack}
 use Rattle.c_structs.specs.declared.HeldUnit.{HeldUnit}
 
-clock-back : (c : Clock) → clock_from (mark_of c) (second_of c) ≡ c
+clock-back : (c : Option ℕ) → clock_from (mark_of c) (second_of c) ≡ c
 unfolding clock_from
-clock-back Unset = refl
-clock-back (At t) = refl
+clock-back None = refl
+clock-back (Some t) = refl
 
 pub unit-back : UnitBack
 unfolding opened shut_of
 unit-back u k = rw (clock-back u.clock, kept_whole (settings_of u.plant) k) refl
 
-clock-held : (c : Clock) → is_held_clock (mark_of c) (second_of c) ≡ true
+clock-held : (c : Option ℕ) → is_held_clock (mark_of c) (second_of c) ≡ true
 unfolding is_held_clock
-clock-held Unset = refl
-clock-held (At t) = refl
+clock-held None = refl
+clock-held (Some t) = refl
 
 pub held-by-unit : HeldByUnit
 unfolding shut_of is_held_unit
@@ -89,7 +88,7 @@ module _ (h : HeldUnit) (sound : is_sound (opened h) ≡ true) where
       go : (t : Bool) → is_held_clock h.clock_set h.clock ≡ t → is_held_clock h.clock_set h.clock ≡ true
       go true e = e
       go false e =
-          let late : sound_clock (clock_of (opened h).clock) ≡ false = rw (opened-clock h, never-from h.clock_set h.clock e) refl in
+          let late : sound_clock ((opened h).clock) ≡ false = rw (opened-clock h, never-from h.clock_set h.clock e) refl in
           absurd (false≢true (sym late ∙ (sound-parts (opened h) sound).clock))
 
   settings-such : is_kept (settings_in h.settings) ≡ true
@@ -116,8 +115,8 @@ wide-held u k = rw (clock-held u.clock, k)
 -- ---- refusals
 
 refusal-by : (a : Answer) (h : HeldUnit) (u : Unit) → ((handed_by a h u).cause ≡ 0 → ⊥) → (handed_by a h u).unit ≡ h
-refusal-by Answer.Accepted h u n = absurd (n refl)
-refusal-by (Answer.Refused c) h u n = refl
+refusal-by (Ok tt) h u n = absurd (n refl)
+refusal-by (Err c) h u n = refl
 
 pub refusal-hands-back : RefusalHandsBack
 unfolding handed

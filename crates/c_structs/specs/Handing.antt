@@ -3,7 +3,7 @@
 use Rattle.std.specs.Prelude.{◌≡◌, true, false}
 use Rattle.unit.specs.Values.{is_sound}
 use Rattle.unit.specs.declared.Unit.{Unit}
-use Rattle.unit.specs.declared.Done.{Done}
+use Rattle.unit.specs.Changed.{Done}
 use Rattle.plant.specs.Plant.{is_kept, settings_of}
 use Rattle.c_structs.specs.Held.{is_held_unit, opened, shut_of, handed}
 use Rattle.c_structs.specs.declared.HeldUnit.{HeldUnit}

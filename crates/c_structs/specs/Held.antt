@@ -1,14 +1,13 @@
 -- The unit as C holds it: which unit a struct stands for, and what a call hands back.
-use Rattle.std.specs.Prelude.{ℕ, Bool, true, cond, ◌&&◌, eqb}
+use Rattle.rules.specs.Causes.{Answer}
+use Rattle.std.specs.Option.{unwrap_or}
+use Rattle.std.specs.Prelude.{ℕ, Bool, true, cond, ◌&&◌, eqb, Option, Some, None, Ok, Err}
 use Rattle.rules.specs.Causes.{number_of}
-use Rattle.rules.specs.declared.Answer.{Answer}
 use Rattle.rules.specs.Plant.{Settings}
 use Rattle.plant.specs.Plant.{kept_from, narrowed, is_kept, settings_of}
 use Rattle.unit.specs.declared.Unit.{Unit}
-use Rattle.unit.specs.declared.Done.{Done}
+use Rattle.unit.specs.Changed.{Done}
 use Rattle.unit.specs.declared.Installed.{Installed}
-use Rattle.unit.specs.declared.Clock.{Clock}
-use Rattle.unit.specs.declared.Clock.TheVariants.{Unset, At}
 use Rattle.c_structs.specs.declared.HeldSettings.{HeldSettings}
 use Rattle.c_structs.specs.declared.HeldUnit.{HeldUnit}
 use Rattle.c_structs.specs.declared.Handed.{Handed}
@@ -21,20 +20,19 @@ abbrev pub settings_held : Settings → HeldSettings
 settings_held s = record { panel = s.panel; inverter = s.inverter; minutes = s.minutes }
 
 -- a clock that is not below T
-abbrev pub never : Clock
-never = At 4294967295
+abbrev pub never : Option ℕ
+never = Some 4294967295
 
 -- mark 1: at that second; mark 0 with second 0: unset; else none that is sound
-unfoldable pub clock_from : ℕ → ℕ → Clock
-clock_from mark second = cond (eqb mark 1) (At second) (cond (eqb mark 0 && eqb second 0) Unset never)
+unfoldable pub clock_from : ℕ → ℕ → Option ℕ
+clock_from mark second = cond (eqb mark 1) (Some second) (cond (eqb mark 0 && eqb second 0) None never)
 
-abbrev pub mark_of : Clock → ℕ
-mark_of Unset = 0
-mark_of (At t) = 1
+abbrev pub mark_of : Option ℕ → ℕ
+mark_of None = 0
+mark_of (Some t) = 1
 
-abbrev pub second_of : Clock → ℕ
-second_of Unset = 0
-second_of (At t) = t
+abbrev pub second_of : Option ℕ → ℕ
+second_of clock = unwrap_or clock 0
 
 -- whether some unit has the clock of these fields
 unfoldable pub is_held_clock : ℕ → ℕ → Bool
@@ -82,12 +80,12 @@ shut_of u = record {
 
 -- 0, or the cause's number in 01's table
 abbrev pub answer_number : Answer → ℕ
-answer_number Answer.Accepted = 0
-answer_number (Answer.Refused c) = number_of c
+answer_number (Ok tt) = 0
+answer_number (Err c) = number_of c
 
 abbrev pub handed_by : Answer → HeldUnit → Unit → Handed
-handed_by Answer.Accepted h u = record { unit = shut_of u; cause = 0 }
-handed_by (Answer.Refused c) h u = record { unit = h; cause = number_of c }
+handed_by (Ok tt) h u = record { unit = shut_of u; cause = 0 }
+handed_by (Err c) h u = record { unit = h; cause = number_of c }
 
 -- the call's unit, or where it is refused the struct that came in
 unfoldable pub handed : HeldUnit → Done → Handed

@@ -3,13 +3,13 @@
 
 ghost use Rattle.std.specs.Prelude.{◌≡◌};
 ghost use Rattle.plant.specs.Plant.{given_of};
-ghost use Rattle.c_structs.specs.Held.{settings_in, settings_held, clock_from, mark_of, second_of, opened, shut_of, answer_number, handed, newly};
+ghost use Rattle.c_structs.specs.Held.{settings_in, settings_held, clock_from, mark_of, opened, shut_of, answer_number, handed, newly};
 
 use plant::{GivenSettings, Plant};
 use polling::Requests;
 use pool::Pool;
-use rules::{Answer, BLOCK_COUNT};
-use unit::{Clock, Done, Installed, Unit};
+use rules::{BLOCK_COUNT, Cause};
+use unit::{Done, Installed, Unit};
 
 // The settings in fields of fixed layout: wide, as an installer gives them.
 #[repr(C)]
@@ -49,155 +49,165 @@ pub struct Handed {
 }
 
 // The settings that C gives or holds.
-pub fn given_settings(held: HeldSettings) -> GivenSettings
-    ensures { given_of result ≡ settings_in held }
-{
-    GivenSettings {
-        panel: held.panel,
-        inverter: held.inverter,
-        minutes: held.minutes,
+impl From<HeldSettings> for GivenSettings {
+    ghost from_gives = { λ held given. given_of given ≡ settings_in held };
+
+    fn from(held: HeldSettings) -> GivenSettings {
+        GivenSettings {
+            panel: held.panel,
+            inverter: held.inverter,
+            minutes: held.minutes,
+        }
     }
 }
 
 // The settings for C to hold.
-fn held_settings(given: GivenSettings) -> HeldSettings
-    ensures { result ≡ settings_held (given_of given) }
-{
-    HeldSettings {
-        panel: given.panel,
-        inverter: given.inverter,
-        minutes: given.minutes,
+impl From<GivenSettings> for HeldSettings {
+    ghost from_gives = { λ given held. held ≡ settings_held (given_of given) };
+
+    fn from(given: GivenSettings) -> HeldSettings {
+        HeldSettings {
+            panel: given.panel,
+            inverter: given.inverter,
+            minutes: given.minutes,
+        }
     }
 }
 
-// A clock that no sound unit has.
+// A clock that no sound unit has: C's fields can say more than an Option does.
 const NEVER: u32 = 4294967295;
 
 // The clock of a mark and a second. Where no unit has them, it is one that is not sound.
-fn clock_from(mark: u8, second: u32) -> Clock
+#[tactic(auto, unfolding(crate::specs::Held::clock_from))]
+fn clock_from(mark: u8, second: u32) -> Option<u32>
     ensures { result ≡ clock_from mark second }
 {
     if mark == 1 {
-        return Clock::At(second);
+        return Some(second);
     }
     if (mark == 0) & (second == 0) {
-        return Clock::Unset;
+        return None;
     }
-    Clock::At(NEVER)
+    Some(NEVER)
 }
 
-fn mark_of(clock: Clock) -> u8
+fn mark_of(clock: Option<u32>) -> u8
     ensures { result ≡ mark_of clock }
 {
     match clock {
-        Clock::Unset => 0,
-        Clock::At(_) => 1,
-    }
-}
-
-fn second_of(clock: Clock) -> u32
-    ensures { result ≡ second_of clock }
-{
-    match clock {
-        Clock::Unset => 0,
-        Clock::At(t) => t,
+        None => 0,
+        Some(_) => 1,
     }
 }
 
 // The unit that C holds, or one that is not sound where it holds none: a setting that a unit has no room for is out of its range.
-pub fn open(held: HeldUnit) -> Unit
-    ensures { result ≡ opened held }
-{
-    let id = held.id;
-    let mac = held.mac;
-    let months = held.months;
-    let given = given_settings(held.settings);
-    let settings = given.narrowed();
-    let clock = clock_from(held.clock_set, held.clock);
-    Unit {
-        plant: Plant { id, mac, settings },
-        pool: Pool {
+impl From<HeldUnit> for Unit {
+    ghost from_gives = { λ held unit. unit ≡ opened held };
+
+    #[tactic(auto, unfolding(crate::specs::Held::opened))]
+    fn from(held: HeldUnit) -> Unit {
+        let HeldUnit {
+            id,
+            mac,
             months,
-            free: held.free,
-        },
-        requests: Requests {
-            wanted_flag: held.wanted_flag,
-            held_flag: held.held_flag,
-            failures: held.failures,
-            fixed_at: held.fixed_at,
-            update_at: held.update_at,
-        },
-        clock,
-        floor: held.floor,
-        command: held.command,
+            ..
+        } = held;
+        let given = GivenSettings::from(held.settings);
+        Unit {
+            plant: Plant {
+                id,
+                mac,
+                settings: given.narrowed(),
+            },
+            pool: Pool {
+                months,
+                free: held.free,
+            },
+            requests: Requests {
+                wanted_flag: held.wanted_flag,
+                held_flag: held.held_flag,
+                failures: held.failures,
+                fixed_at: held.fixed_at,
+                update_at: held.update_at,
+            },
+            clock: clock_from(held.clock_set, held.clock),
+            floor: held.floor,
+            command: held.command,
+        }
     }
 }
 
 // The unit for C to hold.
-pub fn shut(unit: Unit) -> HeldUnit
-    ensures { result ≡ shut_of unit }
-{
-    let plant = unit.plant;
-    let pool = unit.pool;
-    let requests = unit.requests;
-    let clock = unit.clock;
-    let id = plant.id;
-    let mac = plant.mac;
-    let months = pool.months;
-    HeldUnit {
-        id,
-        mac,
-        wanted_flag: requests.wanted_flag,
-        held_flag: requests.held_flag,
-        failures: requests.failures,
-        clock_set: mark_of(clock),
-        floor: unit.floor,
-        months,
-        free: pool.free,
-        clock: second_of(clock),
-        command: unit.command,
-        fixed_at: requests.fixed_at,
-        update_at: requests.update_at,
-        settings: held_settings(plant.settings.widened()),
+impl From<Unit> for HeldUnit {
+    ghost from_gives = { λ unit held. held ≡ shut_of unit };
+
+    #[tactic(auto, unfolding(crate::specs::Held::shut_of))]
+    fn from(unit: Unit) -> HeldUnit {
+        let Unit {
+            plant,
+            pool,
+            requests,
+            clock,
+            floor,
+            command,
+        } = unit;
+        let Plant { id, mac, settings } = plant;
+        let Pool { months, free } = pool;
+        HeldUnit {
+            id,
+            mac,
+            wanted_flag: requests.wanted_flag,
+            held_flag: requests.held_flag,
+            failures: requests.failures,
+            clock_set: mark_of(clock),
+            floor,
+            months,
+            free,
+            clock: clock.unwrap_or(0),
+            command,
+            fixed_at: requests.fixed_at,
+            update_at: requests.update_at,
+            settings: HeldSettings::from(settings.widened()),
+        }
     }
 }
 
-// 0, or the number of the cause.
-fn answer_number(answer: Answer) -> u32
+// 0, or the number of the cause, as C gets it.
+fn answer_number(answer: Result<(), Cause>) -> u32
     ensures { result ≡ answer_number answer }
 {
     match answer {
-        Answer::Accepted => 0,
-        Answer::Refused(cause) => rules::cause_number(cause),
+        Ok(()) => 0,
+        Err(cause) => u32::from(cause),
     }
 }
 
 // What a call hands back: its unit, or where it is refused the very struct that came in.
-pub fn hand(held: HeldUnit, done: Done) -> Handed
+#[tactic(auto, unfolding(crate::specs::Held::handed))]
+pub fn hand(held: HeldUnit, done: Done<()>) -> Handed
     ensures { result ≡ handed held done }
 {
-    let unit = done.unit;
-    let answer = done.answer;
-    match answer {
-        Answer::Accepted => Handed {
-            unit: shut(unit),
+    match done.answer {
+        Ok(()) => Handed {
+            unit: HeldUnit::from(done.unit),
             cause: 0,
         },
-        Answer::Refused(cause) => Handed {
+        Err(cause) => Handed {
             unit: held,
-            cause: rules::cause_number(cause),
+            cause: u32::from(cause),
         },
     }
 }
 
 // What installing hands out.
-pub fn hand_new(installed: Installed) -> Handed
-    ensures { result ≡ newly installed }
-{
-    let unit = installed.unit;
-    let answer = installed.answer;
-    Handed {
-        unit: shut(unit),
-        cause: answer_number(answer),
+impl From<Installed> for Handed {
+    ghost from_gives = { λ installed handed. handed ≡ newly installed };
+
+    #[tactic(auto, unfolding(crate::specs::Held::newly))]
+    fn from(installed: Installed) -> Handed {
+        Handed {
+            unit: HeldUnit::from(installed.unit),
+            cause: answer_number(installed.answer),
+        }
     }
 }

@@ -1,4 +1,5 @@
 -- Laws of a start that begins a month: its date exists where its month does.
+use Rattle.std.specs.Prelude.{Some, None, cond}
 use Prim.Native.Nat.{ℕ, ◌+◌, ◌-◌, ◌*◌, ◌≤◌, ◌<◌}
 use mathlib.Core.Path.{◌≡◌, ◌∙◌, refl, sym, ap}
 use mathlib.Core.Bool.{Bool, true, false, ◌&&◌, and-false, and-true}
@@ -14,8 +15,7 @@ use Rattle.rules.specs.File.{month_begins}
 use Rattle.laws.proofs.Tests.{both}
 use Rattle.laws.proofs.Bytes.{same-equal, part-front}
 use Rattle.digits.proofs.Parts.{part-part, digits-length}
-use Rattle.calendar.specs.Moments.{begun_of, month_begun, month_exists}
-use Rattle.calendar.specs.declared.dates.Begun.TheVariants.{Month, Nothing}
+use Rattle.calendar.specs.Moments.{month_begun, month_exists}
 use Rattle.calendar.proofs.Laws.{days-range}
 use Rattle.calendar.proofs.Scan.{four_is}
 use Rattle.calendar.proofs.DateLaws.{month-facts, exists-is}
@@ -56,7 +56,7 @@ module _ (s : List ℕ) (full : length s ≡ 12) where
 -- ---- what `month_begun` reads of 12 bytes: the year's two pairs and the month
 
 module _ (s : List ℕ) where
-  pub begun-short : (length s ≡ 12 → ⊥) → Nothing ≡ month_begun s
+  pub begun-short : (length s ≡ 12 → ⊥) → None ≡ month_begun s
   unfolding month_begun
   begun-short h = rw (ne_eqb (length s) 12 h) refl
 
@@ -72,12 +72,12 @@ module _ (s : List ℕ) where
         go true e = rw (begins-exists s full e) refl
         go false e = and-false (all_digits s && month_exists (year_in s) (month_in s)) ∙ sym (and-false (all_digits s && exists (whole_minute s)))
 
-    pub begun-not : (all_digits s && month_exists (100 * p + q) m && month_begins s) ≡ false → Nothing ≡ month_begun s
+    pub begun-not : (all_digits s && month_exists (100 * p + q) m && month_begins s) ≡ false → None ≡ month_begun s
     unfolding month_begun
     begun-not e = rw (sym begun-test ∙ e) refl
 
     pub begun-is : (all_digits s && month_exists (100 * p + q) m && month_begins s) ≡ true
-        → Month (12 * (100 * p + q - 2000) + (m - 1)) ≡ month_begun s
+        → Some (12 * (100 * p + q - 2000) + (m - 1)) ≡ month_begun s
     unfolding month_begun
     begun-is e = rw (sym begun-test ∙ e, year-is, m≡) refl
 
@@ -91,11 +91,11 @@ pub record Begins (s : List ℕ) (m : ℕ) : Type 0 where
   pub month : m ≡ month_at s
   pub few : m < month_count
 
-pub begun-facts : (s : List ℕ) (m : ℕ) → Month m ≡ month_begun s → Begins s m
+pub begun-facts : (s : List ℕ) (m : ℕ) → Some m ≡ month_begun s → Begins s m
 unfolding month_begun
 begun-facts s m e = go (digits 12 s && exists (whole_minute s) && month_begins s) refl e
   where
-    go : (b : Bool) → (digits 12 s && exists (whole_minute s) && month_begins s) ≡ b → Month m ≡ begun_of b (month_at s) → Begins s m
+    go : (b : Bool) → (digits 12 s && exists (whole_minute s) && month_begins s) ≡ b → Some m ≡ cond b (Some (month_at s)) None → Begins s m
     go true t e =
         let b₂ = both (digits 12 s && exists (whole_minute s)) (month_begins s) t in
         let b₁ = both (digits 12 s) (exists (whole_minute s)) b₂.0 in
@@ -105,10 +105,10 @@ begun-facts s m e = go (digits 12 s && exists (whole_minute s) && month_begins s
         record { form = b₁.0; there = b₁.1; first = b₂.1; month = m≡; few = omega (arith, f.from, f.until, f.first, f.last) }
     go false t e = let z : ◌≡◌ {A = ℕ} 0 1 = cc in absurd (omega arith)
 
-pub begun-none : (s : List ℕ) → Nothing ≡ month_begun s → (digits 12 s && exists (whole_minute s) && month_begins s) ≡ false
+pub begun-none : (s : List ℕ) → None ≡ month_begun s → (digits 12 s && exists (whole_minute s) && month_begins s) ≡ false
 unfolding month_begun
 begun-none s e = go (digits 12 s && exists (whole_minute s) && month_begins s) e
   where
-    go : (b : Bool) → Nothing ≡ begun_of b (month_at s) → b ≡ false
+    go : (b : Bool) → None ≡ cond b (Some (month_at s)) None → b ≡ false
     go true e = let z : ◌≡◌ {A = ℕ} 0 1 = cc in absurd (omega arith)
     go false e = refl

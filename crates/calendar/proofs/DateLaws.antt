@@ -1,9 +1,9 @@
 -- Laws of dates in digits: which tests decide them, and that every date stands before the end of 2099.
+use Rattle.std.specs.Prelude.{Some, None, Option}
 use Prim.Native.Nat.{ℕ, ◌+◌, ◌-◌, ◌*◌, ◌/◌, ◌≤◌, ◌<◌}
 use mathlib.Core.Path.{◌≡◌, refl, sym, ap, ◌∙◌}
 use mathlib.Core.Bool.{Bool, true, false, cond, ◌&&◌, and_assoc, and-false}
 use mathlib.Core.List.{List, [], ◌∷◌, ◌++◌}
-use mathlib.Core.Option.{Option, none, some}
 use native.Mathlib.Omega.{arith}
 use lib.Dec.{leb}
 use lib.ListN.{length, length-append}
@@ -11,17 +11,16 @@ use borrow.Author.Tests.{ltb-true, leb-true, eq-eqb, ne_eqb}
 use Rattle.rules.specs.Digits.{part, value, all_at_most, all_digits, digits}
 use Rattle.rules.specs.Calendar.{first_day, year_in, month_in, day_in, hour_in, minute_in, second_in, month_at, exists, seconds_of, moment, whole_minute, half_hour, start_slot, slot_of, month_count, day_count, end_of_time, slot_length, slot_count}
 use Rattle.laws.proofs.Tests.{both}
-use Rattle.calendar.specs.Moments.{moment_of, month_exists, day_exists, time_exists, Dated, second_at}
-use Rattle.calendar.specs.declared.dates.Moment.TheVariants.{At, Missing}
+use Rattle.calendar.specs.Moments.{month_exists, day_exists, time_exists, Dated, second_at}
 use Rattle.calendar.proofs.Laws.{first-day-step, first-day_monotone, first-day-end}
 use Rattle.calendar.proofs.Scan.{four_is}
 
 -- what a test chose
-pub cond-some : (b : Bool) (x t : ℕ) → cond b (some x) none ≡ some t → (b ≡ true) × (x ≡ t)
+pub cond-some : (b : Bool) (x t : ℕ) → cond b (Some x) None ≡ Some t → (b ≡ true) × (x ≡ t)
 cond-some true x t e = (refl, (cc))
 cond-some false x t e = let z : ◌≡◌ {A = ℕ} 0 1 = cc in absurd (omega arith)
 
-pub cond-none : (b : Bool) (x : ℕ) → cond b (some x) none ≡ none → b ≡ false
+pub cond-none : (b : Bool) (x : ℕ) → cond b (Some x) None ≡ None → b ≡ false
 cond-none true x e = let z : ◌≡◌ {A = ℕ} 0 1 = cc in absurd (omega arith)
 cond-none false x e = refl
 
@@ -79,19 +78,19 @@ module _ (s : List ℕ) where
       let t = both _ _ (sym exists-is ∙ e) in
       date-below (dated (year_in s) (month_in s) (day_in s) (hour_in s) (minute_in s) (second_in s) t.0 t.1)
 
-  pub moment-short : (length s ≡ 14 → ⊥) → moment s ≡ none
+  pub moment-short : (length s ≡ 14 → ⊥) → moment s ≡ None
   unfolding moment
   moment-short h = rw (ne_eqb (length s) 14 h) refl
 
   module _ (full : length s ≡ 14) where
-    moment-is : moment s ≡ cond (all_digits s && exists s) (some (seconds_of s)) none
+    moment-is : moment s ≡ cond (all_digits s && exists s) (Some (seconds_of s)) None
     unfolding moment
     moment-is = rw (eq-eqb (length s) 14 full) refl
 
-    pub no-digits : all_digits s ≡ false → moment s ≡ none
+    pub no-digits : all_digits s ≡ false → moment s ≡ None
     no-digits e = moment-is ∙ rw e refl
 
-    no-date : exists s ≡ false → moment s ≡ none
+    no-date : exists s ≡ false → moment s ≡ None
     no-date e = moment-is ∙ rw (e, and-false (all_digits s)) refl
 
 -- what was read of 14 bytes: the year's two pairs and the month's
@@ -112,7 +111,7 @@ module _ {s : List ℕ} {p q m : ℕ} (a : MonthRead s p q m) where
   year-is : year_in s ≡ 100 * p + q
   year-is = let full = a.full in omega (arith, four_is s 0 (omega arith), a.high, a.low)
 
-  pub no-month : month_exists (100 * p + q) m ≡ false → moment s ≡ none
+  pub no-month : month_exists (100 * p + q) m ≡ false → moment s ≡ None
   no-month e = no-date s a.full (exists-is s ∙ rw (year-is, ← a.month, e) refl)
 
   module _ {d h i x : ℕ} (b : TimeRead s d h i x) where
@@ -120,13 +119,13 @@ module _ {s : List ℕ} {p q m : ℕ} (a : MonthRead s p q m) where
     abbrev n : ℕ
     n = 12 * (100 * p + q - 2000) + (m - 1)
 
-    pub no_day : (day_exists n d && time_exists h i x) ≡ false → moment s ≡ none
+    pub no_day : (day_exists n d && time_exists h i x) ≡ false → moment s ≡ None
     no_day e =
         no-date s a.full
         (exists-is s ∙ rw (year-is, ← a.month, ← b.day, ← b.hour, ← b.minute, ← b.second, e, and-false (month_exists (100 * p + q) m)) refl)
 
     pub is-date : all_digits s ≡ true → month_exists (100 * p + q) m ≡ true → (day_exists n d && time_exists h i x) ≡ true
-        → {t : ℕ} → t ≡ second_at n d h i x → moment s ≡ some t
+        → {t : ℕ} → t ≡ second_at n d h i x → moment s ≡ Some t
     unfolding seconds_of
     is-date all e f t≡ =
         let there : exists s ≡ true = exists-is s ∙ rw (year-is, ← a.month, ← b.day, ← b.hour, ← b.minute, ← b.second, e, f) refl in
@@ -143,42 +142,34 @@ module _ (s : List ℕ) where
       go [] = refl
       go (x ∷ t) = ap (λ (b : Bool). leb x 9 && b) (go t)
 
-  pub start-short : (length s ≡ 12 → ⊥) → start_slot s ≡ none
+  pub start-short : (length s ≡ 12 → ⊥) → start_slot s ≡ None
   unfolding start_slot
   start-short h = rw (ne_eqb (length s) 12 h) refl
 
   module _ (full : length s ≡ 12) where
-    start_is : start_slot s ≡ cond (all_digits s && exists (whole_minute s) && half_hour s) (some (seconds_of (whole_minute s) / slot_length)) none
+    start_is : start_slot s ≡ cond (all_digits s && exists (whole_minute s) && half_hour s) (Some (seconds_of (whole_minute s) / slot_length)) None
     unfolding start_slot
     start_is = rw (eq-eqb (length s) 12 full) refl
 
-    whole_is : moment (whole_minute s) ≡ cond (all_digits s && exists (whole_minute s)) (some (seconds_of (whole_minute s))) none
+    whole_is : moment (whole_minute s) ≡ cond (all_digits s && exists (whole_minute s)) (Some (seconds_of (whole_minute s))) None
     whole_is =
         let long = length-append s (0 ∷ 0 ∷ []) in
         moment-is (whole_minute s) (omega arith) ∙ rw digits-whole refl
 
-    pub no-minute : moment (whole_minute s) ≡ none → start_slot s ≡ none
+    pub no-minute : moment (whole_minute s) ≡ None → start_slot s ≡ None
     no-minute e = start_is ∙ rw (cond-none (all_digits s && exists (whole_minute s)) (seconds_of (whole_minute s)) (sym whole_is ∙ e)) refl
 
-    pub no_start : half_hour s ≡ false → start_slot s ≡ none
+    pub no_start : half_hour s ≡ false → start_slot s ≡ None
     no_start e = start_is ∙ rw (e, and-false (all_digits s && exists (whole_minute s))) refl
 
-    pub is-start : (t : ℕ) → moment (whole_minute s) ≡ some t → half_hour s ≡ true → {k : ℕ} → k ≡ slot_of t → start_slot s ≡ some k
+    pub is-start : (t : ℕ) → moment (whole_minute s) ≡ Some t → half_hour s ≡ true → {k : ℕ} → k ≡ slot_of t → start_slot s ≡ Some k
     is-start t e half k≡ =
         let r = cond-some (all_digits s && exists (whole_minute s)) (seconds_of (whole_minute s)) t (sym whole_is ∙ e) in
         start_is ∙ rw (r.0, half, r.1, k≡) refl
 
 -- ---- the answers
 
-pub missing-none : (o : Option ℕ) → Missing ≡ moment_of o → o ≡ none
-missing-none none e = refl
-missing-none (some t) e = let x : ◌≡◌ {A = ℕ} 0 1 = cc in absurd (omega arith)
-
-pub at_some : (o : Option ℕ) (t : ℕ) → At t ≡ moment_of o → o ≡ some t
-at_some none t e = let x : ◌≡◌ {A = ℕ} 0 1 = cc in absurd (omega arith)
-at_some (some k) t e = cc
-
-pub start-below : (s : List ℕ) (k : ℕ) → start_slot s ≡ some k → k < slot_count
+pub start-below : (s : List ℕ) (k : ℕ) → start_slot s ≡ Some k → k < slot_count
 unfolding start_slot
 start-below s k e =
     let w = whole_minute s in

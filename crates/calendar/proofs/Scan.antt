@@ -1,14 +1,10 @@
 -- Laws of a list of digits that is read by an index.
-use Prim.Native.Nat.{ℕ, suc, ◌+◌, ◌-◌, ◌*◌, ◌≤◌, ◌<◌}
-use mathlib.Core.Path.{◌≡◌, refl, ◌∙◌}
-use mathlib.Core.List.{List, ◌++◌}
-use native.Mathlib.Nat.{zero-add}
-use native.Mathlib.Numerals.{add-one}
+use Prim.Native.Nat.{ℕ, ◌+◌, ◌-◌, ◌*◌, ◌≤◌, ◌<◌}
+use mathlib.Core.Path.{◌≡◌, refl}
+use mathlib.Core.List.{List}
 use native.Mathlib.Omega.{arith}
-use lib.ListN.{length, get_or, set, take, drop, replicate, drop_of_length-le}
-use lib.Seq.{take_all, paste-suc}
+use lib.ListN.{length, get_or, drop_of_length-le}
 use Rattle.rules.specs.Digits.{part, value_from, value}
-use Rattle.rules.specs.Calendar.{whole_minute}
 use Rattle.laws.proofs.Bytes.{at_next}
 
 module _ (s : List ℕ) (i : ℕ) where
@@ -42,21 +38,3 @@ module _ (s : List ℕ) (i : ℕ) where
       let e₁ : i + 1 + 1 ≡ i + 2 = omega arith in
       let e₂ : i + 2 + 1 ≡ i + 3 = omega arith in
       rw (at_next s i h₀, at_next s (i + 1) h₁, e₁, at_next s (i + 2) h₂, e₂, at_next s (i + 3) h₃) (omega arith)
-
--- ---- a copy of 12 digits into 14 zeros
-
--- the first i are copied
-abbrev pub copied : List ℕ → ℕ → List ℕ
-copied s i = take i s ++ drop i (replicate 14 0)
-
-module _ (s w : List ℕ) (i : ℕ) (full : length s ≡ 12) (e : w ≡ copied s i) where
-  pub copy_more : i < 12 → set w i (get_or s i 0) ≡ copied s (i + 1)
-  copy_more h =
-      let next : set (copied s i) i (get_or s i 0) ≡ copied s (suc i) =
-      simp zero-add at (paste-suc (replicate 14 0) 0 s i 0 (omega arith) (omega arith)) in
-      rw (e, add-one) next
-
-  pub copy-all : i ≤ 12 → 12 ≤ i → w ≡ whole_minute s
-  copy-all h l =
-      let end : i ≡ 12 = omega arith in
-      e ∙ rw (end, take_all 12 s (omega arith)) refl

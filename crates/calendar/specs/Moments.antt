@@ -1,26 +1,12 @@
--- A second or a slot that digits may stand for, as the code's answer, and the tests of a date in the code's order.
-use Rattle.std.specs.Prelude.{ℕ, ◌+◌, ◌-◌, ◌*◌, ◌≤◌, ◌<◌, Bool, true, false, ◌&&◌, List, leb, ltb}
-use Rattle.std.proofs.Math.Option.{Option, none, some}
+-- The month that digits begin, and the tests of a date in the code's order.
+use Rattle.std.specs.Prelude.{ℕ, ◌+◌, ◌-◌, ◌*◌, ◌≤◌, ◌<◌, Bool, true, false, cond, ◌&&◌, List, leb, ltb, Some, None, Option}
 use Rattle.rules.specs.Digits.{digits}
 use Rattle.rules.specs.Calendar.{day_length, days_of_month, first_day, month_count, month_at, exists, whole_minute}
 use Rattle.rules.specs.File.{month_begins}
-use Rattle.calendar.specs.declared.dates.Moment.{Moment}
-use Rattle.calendar.specs.declared.dates.Moment.TheVariants.{At, Missing}
-use Rattle.calendar.specs.declared.dates.Begun.{Begun}
-use Rattle.calendar.specs.declared.dates.Begun.TheVariants.{Month, Nothing}
-
-abbrev pub moment_of : Option ℕ → Moment
-moment_of none = Missing
-moment_of (some t) = At t
-
--- the month that digits begin, where they do
-abbrev pub begun_of : Bool → ℕ → Begun
-begun_of true m = Month m
-begun_of false m = Nothing
 
 -- 'the start is day 01, 00:00': 12 digits that are a date and begin a month
-unfoldable pub month_begun : List ℕ → Begun
-month_begun s = begun_of (digits 12 s && exists (whole_minute s) && month_begins s) (month_at s)
+unfoldable pub month_begun : List ℕ → Option ℕ
+month_begun s = cond (digits 12 s && exists (whole_minute s) && month_begins s) (Some (month_at s)) None
 
 -- 'a year 2000 to 2099', and a month of it
 abbrev pub month_exists : ℕ → ℕ → Bool

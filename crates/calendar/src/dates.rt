@@ -2,24 +2,10 @@
 ghost use Rattle.std.specs.Prelude.{◌≡◌, ◌||◌, ◌≤◌, eqb, length};
 ghost use Rattle.rules.specs.Digits.{part, value};
 ghost use Rattle.rules.specs.Calendar.{moment, start_slot, whole_minute};
-ghost use Rattle.calendar.specs.Moments.{moment_of, month_begun, month_exists, day_exists, time_exists, Dated, second_at};
+ghost use Rattle.calendar.specs.Moments.{month_begun, month_exists, day_exists, time_exists, Dated, second_at};
 
 use crate::months::{FIRST_YEAR, MONTHS_OF_YEAR, YEARS, days_of_month, first_day, slot_of};
 use rules::DAY_LENGTH;
-
-// The second, or the slot, that digits stand for; Missing where they stand for none.
-#[derive(Clone, Copy)]
-pub enum Moment {
-    At(u32),
-    Missing,
-}
-
-// The month that begins at a start.
-#[derive(Clone, Copy)]
-pub enum Begun {
-    Month(u16),
-    Nothing,
-}
 
 // 'a digit is one byte of value 0 to 9' (01, Names and bodies).
 const HIGHEST_DIGIT: u8 = 9;
@@ -98,20 +84,20 @@ fn second_at(month: u16, day: u32, hour: u32, minute: u32, second: u32) -> u32
     DAY_LENGTH * (first_day(month) + (day - 1)) + (HOUR * hour + MINUTE * minute + second)
 }
 
-// The second of a date of 14 digits; Missing where `digits` are no date that exists.
-pub fn read_moment(digits: &[u8]) -> Moment
-    ensures { result ≡ moment_of (moment digits.now) }
+// The second of a date of 14 digits; None where `digits` are no date that exists.
+pub fn read_moment(digits: &[u8]) -> Option<u32>
+    ensures { result ≡ moment digits.now }
 {
     if digits.len() != MOMENT_DIGITS {
-        return Moment::Missing;
+        return None;
     }
     if !digits::few_at_most(digits, HIGHEST_DIGIT) {
-        return Moment::Missing;
+        return None;
     }
     let year = 100 * pair(digits, 0) + pair(digits, 2);
     let month = pair(digits, 4);
     if !is_month(year, month) {
-        return Moment::Missing;
+        return None;
     }
     let number = (MONTHS_OF_YEAR * (year - FIRST_YEAR) + (month - 1)) as u16;
     let day = pair(digits, 6);
@@ -119,9 +105,9 @@ pub fn read_moment(digits: &[u8]) -> Moment
     let minute = pair(digits, 10);
     let second = pair(digits, 12);
     if !(is_day(number, day) & is_time(hour, minute, second)) {
-        return Moment::Missing;
+        return None;
     }
-    Moment::At(second_at(number, day, hour, minute, second))
+    Some(second_at(number, day, hour, minute, second))
 }
 
 // The 12 digits of a minute, with second 00.
@@ -130,43 +116,39 @@ fn whole_minute(digits: &[u8]) -> [u8; 14]
     ensures { result ≡ whole_minute digits.now }
 {
     let mut whole = [0u8; MOMENT_DIGITS];
-    let mut i = 0;
-    while i < START_DIGITS {
-        whole[i] = digits[i];
-        i += 1;
-    }
+    whole[..START_DIGITS].copy_from_slice(digits);
     whole
 }
 
-// The slot that begins at a date of 12 digits; Missing where `digits` are no date that exists, or the minute is not 00 or 30.
-pub fn start_slot(digits: &[u8]) -> Moment
-    ensures { result ≡ moment_of (start_slot digits.now) }
+// The slot that begins at a date of 12 digits; None where `digits` are no date that exists, or the minute is not 00 or 30.
+pub fn start_slot(digits: &[u8]) -> Option<u32>
+    ensures { result ≡ start_slot digits.now }
 {
     if digits.len() != START_DIGITS {
-        return Moment::Missing;
+        return None;
     }
     let whole = whole_minute(digits);
-    let Moment::At(second) = read_moment(&whole) else {
-        return Moment::Missing;
+    let Some(second) = read_moment(&whole) else {
+        return None;
     };
     if !is_half_hour(pair(digits, 10)) {
-        return Moment::Missing;
+        return None;
     }
-    Moment::At(slot_of(second))
+    Some(slot_of(second))
 }
 
-// The month that begins at a date of 12 digits, on day 01 at 00:00; Nothing where `start` is no such date.
-pub fn month_begun(start: &[u8]) -> Begun
+// The month that begins at a date of 12 digits, on day 01 at 00:00; None where `start` is no such date.
+pub fn month_begun(start: &[u8]) -> Option<u16>
     ensures { result ≡ month_begun start.now }
 {
     if start.len() != START_DIGITS {
-        return Begun::Nothing;
+        return None;
     }
     let year = 100 * pair(start, 0) + pair(start, 2);
     let month = pair(start, 4);
     let begins = digits::same(&start[DAY_PLACE..START_DIGITS], &MONTH_BEGINS);
     if !(digits::few_at_most(start, HIGHEST_DIGIT) & is_month(year, month) & begins) {
-        return Begun::Nothing;
+        return None;
     }
-    Begun::Month((MONTHS_OF_YEAR * (year - FIRST_YEAR) + (month - 1)) as u16)
+    Some((MONTHS_OF_YEAR * (year - FIRST_YEAR) + (month - 1)) as u16)
 }

@@ -4,5 +4,5 @@
 mod dates;
 mod months;
 
-pub use dates::{Begun, Moment, month_begun, pair, read_moment, start_slot};
+pub use dates::{month_begun, pair, read_moment, start_slot};
 pub use months::{days_of_month, first_slot, month_of, month_of_slot, slot_of, time_of_day};

@@ -5,7 +5,7 @@ use Rattle.rules.specs.Machine.{Call, tick, clock_lost, file_taken, response_tak
 use Rattle.unit.specs.Calls.{tick_of, lost_of, failure_of, due_of, ceiling_of as ceiling_at, command_of, free_of}
 use Rattle.taking.specs.Taken.{take_of, store_after_take, response_of, store_after_response}
 use Rattle.unit.specs.declared.Unit.{Unit}
-use Rattle.unit.specs.declared.Done.{Done}
+use Rattle.unit.specs.Changed.{Done}
 
 -- a unit and the store that is lent to it
 pub record State : Type 0 where

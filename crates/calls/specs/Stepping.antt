@@ -1,5 +1,5 @@
 -- A call given to the code as a value: what `calls::step` returns and leaves, and that it is the step which the theorem about every list of calls runs.
-use Rattle.std.specs.Prelude.{ℕ, ◌≡◌, List}
+use Rattle.std.specs.Prelude.{ℕ, ◌≡◌, List, Option}
 use Rattle.rules.specs.Causes.{Reply as MachineReply, of_answer, of_due, of_ceiling, of_command, of_free_blocks}
 use Rattle.rules.specs.Machine.{Call as MachineCall, tick, clock_lost, file_taken, response_taken, failure, due, ceiling_of, command, free_blocks}
 use Rattle.unit.specs.Calls.{tick_of, lost_of, failure_of}
@@ -8,29 +8,28 @@ use Rattle.unit.specs.Asked.{due_asked, ceiling_asked, command_asked, free_asked
 use Rattle.calls.specs.Step.{Step, step}
 use Rattle.unit.specs.declared.Unit.{Unit}
 use Rattle.unit.specs.declared.Done.{Done as UnitDone}
-use Rattle.unit.specs.declared.DueAsked.{DueAsked}
-use Rattle.unit.specs.declared.CeilingAsked.{CeilingAsked}
-use Rattle.unit.specs.declared.CommandAsked.{CommandAsked}
-use Rattle.unit.specs.declared.FreeAsked.{FreeAsked}
+use Rattle.unit.specs.Changed.{Done}
+use Rattle.rules.specs.declared.Ceiling.{Ceiling}
+use Rattle.rules.specs.declared.Due.{Due}
 use Rattle.calls.specs.declared.Call.{Call}
 use Rattle.calls.specs.declared.Reply.{Reply}
 use Rattle.calls.specs.declared.Stepped.{Stepped}
 
 -- ---- what the code returns and leaves
 
-abbrev pub answered : UnitDone → Stepped
+abbrev pub answered : Done → Stepped
 answered d = record { unit = d.unit; reply = Reply.Done d.answer }
 
-abbrev pub due_replied : DueAsked → Stepped
+abbrev pub due_replied : UnitDone (Option Due) → Stepped
 due_replied a = record { unit = a.unit; reply = Reply.Due a.answer }
 
-abbrev pub ceiling_replied : CeilingAsked → Stepped
+abbrev pub ceiling_replied : UnitDone (Option Ceiling) → Stepped
 ceiling_replied a = record { unit = a.unit; reply = Reply.Ceiling a.answer }
 
-abbrev pub command_replied : CommandAsked → Stepped
+abbrev pub command_replied : UnitDone ℕ → Stepped
 command_replied a = record { unit = a.unit; reply = Reply.Command a.answer }
 
-abbrev pub free_replied : FreeAsked → Stepped
+abbrev pub free_replied : UnitDone ℕ → Stepped
 free_replied a = record { unit = a.unit; reply = Reply.Blocks a.answer }
 
 -- each call is answered as its own method answers; label and bytes are a file's name and body, or a response's boundary and bytes

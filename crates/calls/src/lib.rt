@@ -2,10 +2,10 @@
 #![tactic(auto)]
 
 ghost use Rattle.std.specs.Prelude.{◌≡◌};
-ghost use Rattle.calls.specs.Stepping.{answered, due_replied, ceiling_replied, command_replied, free_replied, stepped_of, store_of};
+ghost use Rattle.calls.specs.Stepping.{stepped_of, store_of};
 
-use rules::{Answer, Ceiling, Command, Due, FreeBlocks, Kind};
-use unit::{CeilingAsked, CommandAsked, Done, DueAsked, FreeAsked, Unit};
+use rules::{Cause, Ceiling, Due, Kind};
+use unit::{Done, Unit};
 
 // A call, with the values that it is given besides unit and store; name and body of a file, boundary and bytes of a response are lent.
 #[derive(Clone, Copy)]
@@ -24,11 +24,11 @@ pub enum Call {
 // The answer to it.
 #[derive(Clone, Copy)]
 pub enum Reply {
-    Done(Answer),
-    Due(Due),
-    Ceiling(Ceiling),
-    Command(Command),
-    Blocks(FreeBlocks),
+    Done(Result<(), Cause>),
+    Due(Result<Option<Due>, Cause>),
+    Ceiling(Result<Option<Ceiling>, Cause>),
+    Command(Result<u32, Cause>),
+    Blocks(Result<u32, Cause>),
 }
 
 // A unit after a call, and the reply.
@@ -38,60 +38,14 @@ pub struct Stepped {
     pub reply: Reply,
 }
 
-// The step of a call that changes something.
-fn answered(done: Done) -> Stepped
-    ensures { result ≡ answered done }
+// The unit after a call, and its answer as a reply.
+fn replied<T, F: FnOnce(Result<T, Cause>) -> Reply>(done: Done<T>, reply: F) -> Stepped
+    requires { F.pre reply done.answer }
+    ensures { (result.unit ≡ done.unit) × F.post reply done.answer result.reply }
 {
-    let unit = done.unit;
-    let answer = done.answer;
     Stepped {
-        unit,
-        reply: Reply::Done(answer),
-    }
-}
-
-// The step of each question.
-fn due_replied(asked: DueAsked) -> Stepped
-    ensures { result ≡ due_replied asked }
-{
-    let unit = asked.unit;
-    let answer = asked.answer;
-    Stepped {
-        unit,
-        reply: Reply::Due(answer),
-    }
-}
-
-fn ceiling_replied(asked: CeilingAsked) -> Stepped
-    ensures { result ≡ ceiling_replied asked }
-{
-    let unit = asked.unit;
-    let answer = asked.answer;
-    Stepped {
-        unit,
-        reply: Reply::Ceiling(answer),
-    }
-}
-
-fn command_replied(asked: CommandAsked) -> Stepped
-    ensures { result ≡ command_replied asked }
-{
-    let unit = asked.unit;
-    let answer = asked.answer;
-    Stepped {
-        unit,
-        reply: Reply::Command(answer),
-    }
-}
-
-fn free_replied(asked: FreeAsked) -> Stepped
-    ensures { result ≡ free_replied asked }
-{
-    let unit = asked.unit;
-    let answer = asked.answer;
-    Stepped {
-        unit,
-        reply: Reply::Blocks(answer),
+        unit: done.unit,
+        reply: reply(done.answer),
     }
 }
 
@@ -101,14 +55,17 @@ pub fn step(unit: Unit, call: Call, label: &[u8], bytes: &[u8], store: &mut [u8]
     ensures kept { store.new ≡ store_of unit call label.now bytes.now store.old }
 {
     match call {
-        Call::Tick(t) => answered(unit.tick(t, store)),
-        Call::ClockLost => answered(unit.clock_lost()),
-        Call::File => answered(taking::take_file(unit, label, bytes, store)),
-        Call::Response => answered(taking::take_response(unit, label, bytes, store)),
-        Call::Failure(kind, status) => answered(unit.failure(kind, status)),
-        Call::Due => due_replied(unit.due()),
-        Call::Ceiling(slot) => ceiling_replied(unit.ceiling(slot, store)),
-        Call::Command => command_replied(unit.command()),
-        Call::FreeBlocks => free_replied(unit.free_blocks()),
+        Call::Tick(t) => replied(unit.tick(t, store), Reply::Done),
+        Call::ClockLost => replied(unit.clock_lost(), Reply::Done),
+        Call::File => replied(taking::take_file(unit, label, bytes, store), Reply::Done),
+        Call::Response => replied(
+            taking::take_response(unit, label, bytes, store),
+            Reply::Done,
+        ),
+        Call::Failure(kind, status) => replied(unit.failure(kind, status), Reply::Done),
+        Call::Due => replied(unit.due(), Reply::Due),
+        Call::Ceiling(slot) => replied(unit.ceiling(slot, store), Reply::Ceiling),
+        Call::Command => replied(unit.command(), Reply::Command),
+        Call::FreeBlocks => replied(unit.free_blocks(), Reply::Blocks),
     }
 }

@@ -8,24 +8,16 @@ ghost use Rattle.ceiling.specs.Ceiling.{slot_ceiling};
 
 use plant::Plant;
 use pool::Pool;
-use schedule::StoredRate;
+use rules::Ceiling;
 
-// A slot's rate, in percent of C, and its percent of the inverter's capacity; or no rate, where no file gave one.
-#[derive(Clone, Copy)]
-pub enum SlotCeiling {
-    Rated { rate: u8, percent: u8 },
-    NoRate,
-}
-
-// The ceiling of a slot.
-pub fn of_slot(plant: Plant, pool: Pool, store: &[u8], slot: u32) -> SlotCeiling
+// The ceiling of a slot; None where no file gave it a rate.
+// Plant, pool and store apart: a struct of them is no plainer: each caller has the three and would build it, and contracts name its fields by `.entry`.
+pub fn of_slot(plant: Plant, pool: Pool, store: &[u8], slot: u32) -> Option<Ceiling>
     ensures { result ≡ slot_ceiling (settings_of plant) (stored_rate pool store.now slot) }
 {
-    match schedule::rate_at(pool, store, slot) {
-        StoredRate::Rate(rate) => SlotCeiling::Rated {
-            rate,
-            percent: plant.percent(rate),
-        },
-        StoredRate::NoRate => SlotCeiling::NoRate,
-    }
+    let rate = schedule::rate_at(pool, store, slot)?;
+    Some(Ceiling {
+        rate,
+        percent: plant.percent(rate),
+    })
 }

@@ -1,27 +1,20 @@
 -- Laws of bytes put into a buffer: one after the other is both, from place 0 on they are the buffer's first bytes.
+use Rattle.std.specs.Prelude.{Ok, Err}
 use Prim.Native.Nat.{ℕ, suc, ◌+◌, ◌-◌, ◌≤◌, ◌<◌, min}
 use mathlib.Core.Path.{◌≡◌, ◌∙◌, refl, sym, ap}
 use mathlib.Core.Bool.{Bool, true, false}
 use mathlib.Core.List.{List, [], ◌∷◌, ◌++◌, append_assoc, append-nil}
 use native.Mathlib.Nat.{add-zero, add-suc, suc-add, zero-add}
-use native.Mathlib.Numerals.{add-one}
 use native.Mathlib.Omega.{arith}
 use lib.Dec.{leb}
-use lib.ListN.{length, get_or, take, drop, set, length-take, take-append-drop, drop_of_length-le}
-use lib.Seq.{take-suc, take-suc-set, take_all, drop-drop, set_out, sets, sets-eq, length-sets}
+use lib.ListN.{length, take, drop, set, length-take, take-append-drop, drop_of_length-le}
+use lib.Seq.{take_all, drop-drop, set_out, sets, sets-eq, length-sets}
 use borrow.Author.Tests.{le-leb, lt-leb, leb-true, leb-false}
 use Rattle.rules.specs.Writer.{fitting, written_of, buffer_after}
 use Rattle.rules.specs.declared.Cause.{Cause}
-use Rattle.rules.specs.declared.Written.{Written}
 use Rattle.digits.specs.Placed.{placed}
 
 -- ---- a copy: what stands below i is copied
-
-pub copy_step : (to from : List ℕ) (i : ℕ) → i < length from → length to ≡ length from → take i to ≡ take i from
-    → take (i + 1) (set to i (get_or from i 0)) ≡ take (i + 1) from
-copy_step to from i h e t =
-    let h' : i < length to = omega arith in
-    rw (add-one i, take-suc-set to i (get_or from i 0) h', take-suc from i 0 h, t) refl
 
 pub copy-end : (to from : List ℕ) (i : ℕ) → length from ≤ i → length to ≡ length from → take i to ≡ take i from → to ≡ from
 copy-end to from i h e t = rw (take_all i to (omega arith), take_all i from h) at t
@@ -104,11 +97,11 @@ placed_first l b h = sets-eq b l 0 (omega arith) ∙ rw zero-add refl
 
 module _ (before b : List ℕ) {len : ℕ} (l : len ≡ length b) where
   pub no_room : length before < len
-      → (Written.Refused Cause.Buffer ≡ written_of (fitting (length before) b)) × (before ≡ buffer_after (fitting (length before) b) before)
+      → (Err Cause.Buffer ≡ written_of (fitting (length before) b)) × (before ≡ buffer_after (fitting (length before) b) before)
   no_room h = let e = lt-leb (length b) (length before) (omega arith) in (rw e refl, rw e refl)
 
   pub with-room : {after : List ℕ} → len ≤ length before → after ≡ placed before 0 b
-      → (Written.Length len ≡ written_of (fitting (length before) b)) × (after ≡ buffer_after (fitting (length before) b) before)
+      → (Ok len ≡ written_of (fitting (length before) b)) × (after ≡ buffer_after (fitting (length before) b) before)
   with-room {after} h p =
       let e = le-leb (length b) (length before) (omega arith) in
       (rw (e, l) refl, rw e (p ∙ placed_first before b (omega arith)))

@@ -1,16 +1,18 @@
 -- Laws of a loop that goes through a list by an index: what the rest from i on is, at i + 1 and at the end.
-use Prim.Native.Nat.{ℕ, zero, suc, ◌+◌, ◌≤◌, ◌<◌, ◌-◌, ◌*◌, ◌^◌, max}
-use mathlib.Core.Path.{◌≡◌, refl, sym, ap}
+use Prim.Native.Nat.{ℕ, suc, ◌+◌, ◌≤◌, ◌<◌, ◌-◌, ◌%◌, ◌^◌, max}
+use mathlib.Core.Path.{◌≡◌, ◌∙◌, refl, sym, ap}
 use mathlib.Core.Bool.{Bool, true, false, ◌&&◌, and_assoc, and-true, and-false}
-use mathlib.Core.List.{List, [], ◌∷◌}
-use native.Mathlib.Nat.{pow-le-pow_right, lt_of_lt_of_le}
+use mathlib.Core.List.{List, [], ◌∷◌, ◌++◌, map}
+use native.Mathlib.Nat.{sub-zero, pow-le-pow_right, lt_of_lt_of_le}
 use native.Mathlib.Omega.{arith}
 use borrow.Author.Tests.{le-leb, lt-leb, leb-true, leb-false}
 use lib.Dec.{leb, eqb, lit<}
-use lib.ListN.{length, get_or, drop, take, drop_of_length-le}
-use Rattle.rules.specs.Digits.{all_at_most, all_ascii, from_ascii, same_bytes, value_from}
+use lib.ListN.{length, get_or, drop, drop_of_length-le, length-append}
+use lib.Seq.{drop-drop}
+use Rattle.std.proofs.lemmas.List.{drop_at}
+use Rattle.rules.specs.Digits.{all_at_most, all_ascii, same_bytes}
 use Rattle.rules.specs.File.{sum}
-use Rattle.laws.proofs.Tests.{both}
+use Rattle.digits.specs.Decimal.{decimal_of, ascii_of, all_from, number_from}
 use Rattle.laws.proofs.Bytes.{at_next}
 
 -- the greater of two numbers is at most m where both are
@@ -38,9 +40,9 @@ module _ (test : ℕ → Bool) (all : List ℕ → Bool) (none : all [] ≡ true
     worst-step s i v h e = rw (max-at-most v (value (get_or s i 0)) m, sym e) (all-step s i (leb v m) h)
 
 module _ (s : List ℕ) (i v m : ℕ) where
-  pub greatest-step : i < length s → (leb v m && all_at_most m (drop i s)) ≡ (leb (max v (get_or s i 0)) m && all_at_most m (drop (i + 1) s))
+  pub greatest_step : i < length s → (leb v m && all_at_most m (drop i s)) ≡ (leb (max v (get_or s i 0)) m && all_at_most m (drop (i + 1) s))
   unfolding all_at_most
-  greatest-step h = worst-step (λ x. leb x m) (all_at_most m) refl (λ x xs. refl) (λ x. x) m s i v h refl
+  greatest_step h = worst-step (λ x. leb x m) (all_at_most m) refl (λ x xs. refl) (λ x. x) m s i v h refl
 
 module _ (s : List ℕ) (i : ℕ) (b : Bool) where
   pub flag-step : (m : ℕ) → i < length s → (b && all_at_most m (drop i s)) ≡ ((b && leb (get_or s i 0) m) && all_at_most m (drop (i + 1) s))
@@ -60,15 +62,15 @@ module _ (s : List ℕ) (i : ℕ) (b : Bool) where
   unfolding all_ascii
   ascii-end = all_end (λ x. leb 48 x && leb x 57) all_ascii refl (λ x xs. refl) s i b
 
-  pub same_step : (t : List ℕ) → i < length s → i < length t
-      → (b && same_bytes (drop i s) (drop i t)) ≡ ((b && eqb (get_or s i 0) (get_or t i 0)) && same_bytes (drop (i + 1) s) (drop (i + 1) t))
+-- two lists: the first byte of each, and their ends
+module _ (b : Bool) {s t : List ℕ} where
+  pub same_next : {x y : ℕ} {s' t' : List ℕ} → s ≡ x ∷ s' → t ≡ y ∷ t' → (b && same_bytes s t) ≡ ((b && eqb x y) && same_bytes s' t')
   unfolding same_bytes
-  same_step t h k =
-      rw (at_next s i h, at_next t i k) (sym (and_assoc b (eqb (get_or s i 0) (get_or t i 0)) (same_bytes (drop (i + 1) s) (drop (i + 1) t))))
+  same_next {x} {y} {s'} {t'} e f = rw (e, f) (sym (and_assoc b (eqb x y) (same_bytes s' t')))
 
-  pub same_end : (t : List ℕ) → length s ≤ i → length t ≤ i → (b && same_bytes (drop i s) (drop i t)) ≡ b
+  pub same_none : s ≡ [] → t ≡ [] → (b && same_bytes s t) ≡ b
   unfolding same_bytes
-  same_end t h k = rw (drop_of_length-le s h, drop_of_length-le t k) (and-true b)
+  same_none e f = rw (e, f) (and-true b)
 
 -- lists of two lengths are not the same
 pub same_length : (s t : List ℕ) → (length s ≡ length t → ⊥) → same_bytes s t ≡ false
@@ -78,64 +80,63 @@ same_length [] (y ∷ t) h = refl
 same_length (x ∷ s) [] h = refl
 same_length (x ∷ s) (y ∷ t) h = rw (same_length s t (λ e. h (ap suc e))) (and-false (eqb x y))
 
-module _ (s : List ℕ) (i acc : ℕ) where
-  pub value-step : i < length s → value_from acc (drop i s) ≡ value_from (acc * 10 + get_or s i 0) (drop (i + 1) s)
-  unfolding value_from
-  value-step h = rw (at_next s i h) refl
+-- a digit more, and a byte that is no digit, where the byte `first` is the digit 0
+module _ (first : ℕ) (s : List ℕ) (i : ℕ) (h : i < length s) where
+  pub digit-step : first ≤ get_or s i 0 → get_or s i 0 - first ≤ 9 → all_from first (drop i s) ≡ all_from first (drop (i + 1) s)
+  unfolding all_from
+  digit-step l m = rw (at_next s i h) (rw (le-leb first (get_or s i 0) l, le-leb (get_or s i 0) (first + 9) (omega arith)) refl)
 
-  pub value-end : length s ≤ i → value_from acc (drop i s) ≡ acc
-  unfolding value_from
-  value-end h = rw drop_of_length-le refl
+  pub digit-stop : (first ≤ get_or s i 0 → first + 9 < get_or s i 0) → all_from first (drop i s) ≡ false
+  unfolding all_from
+  digit-stop l = rw (at_next s i h) (go (leb first (get_or s i 0)) refl)
+    where
+      go : (t : Bool) → leb first (get_or s i 0) ≡ t → (t && leb (get_or s i 0) (first + 9) && all_from first (drop (i + 1) s)) ≡ false
+      go true e = rw (lt-leb (get_or s i 0) (first + 9) (l (leb-true first (get_or s i 0) e))) refl
+      go false e = refl
 
-  -- the same of ASCII digits
-  pub number_step : i < length s → value_from acc (from_ascii (drop i s)) ≡ value_from (acc * 10 + (get_or s i 0 - 48)) (from_ascii (drop (i + 1) s))
-  unfolding value_from
-  number_step h = rw (at_next s i h) refl
+-- bytes of value 0 to 9
+from-0 : (s : List ℕ) → all_from 0 s ≡ all_at_most 9 s
+unfolding all_from all_at_most
+from-0 [] = refl
+from-0 (x ∷ s) = rw (le-leb 0 x (omega arith), from-0 s) refl
 
-  pub number-end : length s ≤ i → value_from acc (from_ascii (drop i s)) ≡ acc
-  unfolding value_from
-  number-end h = rw drop_of_length-le refl
+less-0 : (s : List ℕ) → map (λ x. x - 0) s ≡ s
+less-0 [] = refl
+less-0 (x ∷ s) = rw (sub-zero, less-0 s) refl
 
--- an ASCII digit, and the rest
-pub ascii-next : (s : List ℕ) (i : ℕ) → i < length s → all_ascii (drop i s) ≡ true
-    → (48 ≤ get_or s i 0) × (get_or s i 0 ≤ 57) × (all_ascii (drop (i + 1) s) ≡ true)
-unfolding all_ascii
-ascii-next s i h e =
-    let x = get_or s i 0 in
-    let t = both (leb 48 x && leb x 57) (all_ascii (drop (i + 1) s)) (rw (at_next s i h) at e) in
-    let d = both (leb 48 x) (leb x 57) t.0 in
-    (leb-true 48 x d.0, leb-true x 57 d.1, t.1)
+pub digits_from : (s : List ℕ) → number_from 0 s ≡ decimal_of s
+unfolding number_from decimal_of
+digits_from s = rw (from-0 s, less-0 s) refl
 
--- a digit more, and a byte that is no digit
-module _ (s : List ℕ) (i : ℕ) (h : i < length s) where
-  pub digit-step : get_or s i 0 ≤ 9 → all_at_most 9 (drop i s) ≡ all_at_most 9 (drop (i + 1) s)
-  unfolding all_at_most
-  digit-step l = rw (at_next s i h) (rw (le-leb (get_or s i 0) 9 l) refl)
+-- ASCII digits
+from-48 : (s : List ℕ) → all_from 48 s ≡ all_ascii s
+unfolding all_from all_ascii
+from-48 [] = refl
+from-48 (x ∷ s) = rw (from-48 s) refl
 
-  pub digit-stop : 9 < get_or s i 0 → all_at_most 9 (drop i s) ≡ false
-  unfolding all_at_most
-  digit-stop l = rw (at_next s i h) (rw (lt-leb (get_or s i 0) 9 l) refl)
-
-pub digit-end : (s : List ℕ) (i : ℕ) → length s ≤ i → all_at_most 9 (drop i s) ≡ true
-unfolding all_at_most
-digit-end s i h = rw drop_of_length-le refl
+pub ascii_from : (s : List ℕ) → number_from 48 s ≡ ascii_of s
+unfolding number_from ascii_of
+ascii_from s = rw (from-48 s) refl
 
 -- at most 14 digits fit
 pub fits-digits : (v i : ℕ) → v < 10 ^ i → i ≤ 14 → v < 10 ^ 14
 fits-digits v i h l = lt_of_lt_of_le h (pow-le-pow_right (lit< tt) l)
 
-module _ (s : List ℕ) (i : ℕ) where
-  pub sum_step : i < length s → sum (drop i s) ≡ get_or s i 0 + sum (drop (i + 1) s)
-  unfolding sum
-  sum_step h = rw (at_next s i h) refl
-
-  pub sum-end : length s ≤ i → sum (drop i s) ≡ 0
-  unfolding sum
-  sum-end h = rw drop_of_length-le refl
-
 -- a list is summed by its two parts
-pub sum-parts : (k : ℕ) (s : List ℕ) → sum s ≡ sum (take k s) + sum (drop k s)
+pub sum-append : (s t : List ℕ) → sum (s ++ t) ≡ sum s + sum t
 unfolding sum
-sum-parts zero s = omega arith
-sum-parts (suc k) [] = refl
-sum-parts (suc k) (x ∷ s) = let e = sum-parts k s in omega arith
+sum-append [] t = omega arith
+sum-append (x ∷ s) t = let e = sum-append s t in omega arith
+
+-- what whole stretches of 256 bytes leave of a list: they leave as much of it without its first
+abbrev pub remainder : List ℕ → List ℕ
+remainder s = drop (length s - length s % 256) s
+
+pub remainder-next : {s : List ℕ} (a t : List ℕ) → s ≡ a ++ t → length a ≡ 256 → remainder t ≡ remainder s
+remainder-next {s} a t e h =
+    let long = simp length-append at (ap length e) in
+    let rest : length s - length s % 256 ≡ 256 + (length t - length t % 256) = omega arith in
+    sym (rw rest (sym (drop-drop (length t - length t % 256) 256 s) ∙ ap (drop (length t - length t % 256)) (ap (drop 256) e ∙ drop_at a t 256 h)))
+
+pub remainder-end : (s : List ℕ) → length s < 256 → remainder s ≡ s
+remainder-end s h = let none : length s - length s % 256 ≡ 0 = omega arith in rw none refl

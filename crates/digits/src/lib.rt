@@ -1,12 +1,12 @@
-// Bytes as digits: whether they are some, the number that they stand for, sums and comparisons; and bytes put into a buffer. Scans keep a flag or the greatest byte, and do not leave early.
+// Bytes as digits: whether they are some, the number that they stand for, sums and comparisons; and bytes put into a buffer. Scans keep a flag or the greatest byte, and do not leave early; the number of a few digits does.
 #![tactic(auto)]
 
 mod buffer;
 
-ghost use Rattle.std.specs.Prelude.{◌≡◌, ◌≤◌, max, length};
+ghost use Rattle.std.specs.Prelude.{◌≡◌, ◌≤◌, length};
 ghost use Rattle.rules.specs.Digits.{all_at_most, all_ascii, same_bytes};
 ghost use Rattle.rules.specs.File.{sum};
-ghost use Rattle.digits.specs.Decimal.{decimal_of, ascii_of, rates_sum};
+ghost use Rattle.digits.specs.Decimal.{decimal_of, ascii_of, number_from, rates_sum};
 
 pub use buffer::put;
 
@@ -15,29 +15,14 @@ const MOST_DIGITS: usize = 14;
 
 const HIGHEST_DIGIT: u64 = 9;
 
-// A number of at most 14 digits, or what is none.
-#[derive(Clone, Copy)]
-pub enum Decimal {
-    Number(u64),
-    Broken,
-}
-
-// The greater of two bytes.
-pub fn greater(a: u8, b: u8) -> u8
-    ensures { result ≡ max a b }
-{
-    if a <= b { b } else { a }
-}
-
 // Whether every byte of `s` is at most `most`: the greatest is, which takes one vector operation for 16 bytes.
+#[tactic(auto, using(crate::proofs::Scan::greatest_step))]
 pub fn all_at_most(s: &[u8], most: u8) -> bool
     ensures { result ≡ all_at_most most s.now }
 {
     let mut worst: u8 = 0;
-    let mut i = 0;
-    while i < s.len() {
-        worst = greater(worst, s[i]);
-        i += 1;
+    for &x in s {
+        worst = worst.max(x);
     }
     worst <= most
 }
@@ -47,10 +32,8 @@ pub fn few_at_most(s: &[u8], most: u8) -> bool
     ensures { result ≡ all_at_most most s.now }
 {
     let mut all = true;
-    let mut i = 0;
-    while i < s.len() {
-        all = all & (s[i] <= most);
-        i += 1;
+    for &x in s {
+        all &= x <= most;
     }
     all
 }
@@ -60,10 +43,8 @@ pub fn all_ascii(s: &[u8]) -> bool
     ensures { result ≡ all_ascii s.now }
 {
     let mut all = true;
-    let mut i = 0;
-    while i < s.len() {
-        all = all & ((48 <= s[i]) & (s[i] <= 57));
-        i += 1;
+    for &x in s {
+        all &= (b'0' <= x) & (x <= b'9');
     }
     all
 }
@@ -76,51 +57,43 @@ pub fn same(a: &[u8], b: &[u8]) -> bool
         return false;
     }
     let mut all = true;
-    let mut i = 0;
-    while i < a.len() {
-        all = all & (a[i] == b[i]);
-        i += 1;
+    for (x, y) in a.iter().zip(b) {
+        all &= x == y;
     }
     all
 }
 
-// The number that at most 14 digits stand for, the highest first.
-pub fn number(s: &[u8]) -> Decimal
-    ensures { result ≡ decimal_of s.now }
+// The number that at most 14 digits stand for, the highest first: the byte ZERO is the digit 0, and the nine after it are the others.
+fn number_from<const ZERO: u8>(s: &[u8]) -> Option<u64>
+    requires { ZERO ≤ 246 }
+    ensures { result ≡ number_from ZERO s.now }
 {
     if MOST_DIGITS < s.len() {
-        return Decimal::Broken;
+        return None;
     }
     let mut value: u64 = 0;
-    let mut i = 0;
-    while i < s.len() {
-        let d = s[i] as u64;
+    for &x in s {
+        let d = x.wrapping_sub(ZERO) as u64;
         if HIGHEST_DIGIT < d {
-            return Decimal::Broken;
+            return None;
         }
         value = value * 10 + d;
-        i += 1;
     }
-    Decimal::Number(value)
+    Some(value)
 }
 
-// The number that at most 14 ASCII digits stand for, the highest first.
-pub fn ascii_number(s: &[u8]) -> Decimal
+// The number that at most 14 bytes of value 0 to 9 stand for.
+pub fn number(s: &[u8]) -> Option<u64>
+    ensures { result ≡ decimal_of s.now }
+{
+    number_from::<0>(s)
+}
+
+// The number that at most 14 ASCII digits stand for.
+pub fn ascii_number(s: &[u8]) -> Option<u64>
     ensures { result ≡ ascii_of s.now }
 {
-    if MOST_DIGITS < s.len() {
-        return Decimal::Broken;
-    }
-    if !all_ascii(s) {
-        return Decimal::Broken;
-    }
-    let mut value: u64 = 0;
-    let mut i = 0;
-    while i < s.len() {
-        value = value * 10 + (s[i] - b'0') as u64;
-        i += 1;
-    }
-    Decimal::Number(value)
+    number_from::<b'0'>(s)
 }
 
 // As many bytes as 16 bits can sum.
@@ -132,15 +105,13 @@ fn stretch_sum(s: &[u8]) -> u16
     ensures { result ≡ sum s.now }
 {
     let mut total: u16 = 0;
-    let mut i = 0;
-    while i < s.len() {
-        total += s[i] as u16;
-        i += 1;
+    for &x in s {
+        total += x as u16;
     }
     total
 }
 
-// The sum of the bytes of `s`, of which a record has at most 99,999.
+// The sum of the bytes of `s`, of which a record has at most 99,999. Whole stretches come first: their length is known when they are compiled.
 pub fn sum(s: &[u8]) -> u32
     ensures { result ≡ rates_sum s.now }
 {
@@ -148,10 +119,10 @@ pub fn sum(s: &[u8]) -> u32
         return 0;
     }
     let mut total: u32 = 0;
-    let mut t = s;
-    while STRETCH <= t.len() {
-        total += stretch_sum(&t[..STRETCH]) as u32;
-        t = &t[STRETCH..];
+    let stretches = s.chunks_exact(STRETCH);
+    let rest = stretches.remainder();
+    for stretch in stretches {
+        total += stretch_sum(stretch) as u32;
     }
-    total + stretch_sum(t) as u32
+    total + stretch_sum(rest) as u32
 }

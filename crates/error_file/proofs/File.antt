@@ -1,4 +1,5 @@
 -- The form of an error file, what it tells of the file, and the answers that follow from it.
+use Rattle.std.specs.Prelude.{Ok, Err}
 use Prim.Native.Nat.{ℕ, ◌-◌, ◌≤◌, ◌<◌}
 use mathlib.Core.Path.{◌≡◌, ◌∙◌, refl, sym}
 use mathlib.Core.Bool.{Bool, true, false, ◌&&◌, and-false, and-true}
@@ -9,7 +10,6 @@ use Rattle.rules.specs.ErrorFile.{is_error_file, utf8, error_code, code_of, erro
 use Rattle.rules.specs.declared.Cause.{Cause}
 use Rattle.error_file.specs.Head.{has_head, Headed}
 use Rattle.error_file.specs.Code.{code_in}
-use Rattle.rules.specs.declared.ErrorCode.{ErrorCode}
 use Rattle.laws.proofs.Tests.{both}
 use Rattle.laws.proofs.Bytes.{part-rest}
 use Rattle.error_file.proofs.Head.{three, is_digit, zero-or-one}
@@ -48,11 +48,11 @@ module _ (s : List ℕ) where
       }
 
   -- ---- the answers
-  pub code-refused : false ≡ is_error_file s → ErrorCode.Refused Cause.ErrorFile ≡ code_of (error_code s)
+  pub code-refused : false ≡ is_error_file s → Err Cause.ErrorFile ≡ code_of (error_code s)
   unfolding error_code
   code-refused e = rw (sym e) refl
 
-  pub code-given : {n : ℕ} → true ≡ is_error_file s → n ≡ code_in s → ErrorCode.Code n ≡ code_of (error_code s)
+  pub code-given : {n : ℕ} → true ≡ is_error_file s → n ≡ code_in s → Ok n ≡ code_of (error_code s)
   unfolding error_code code_in
   code-given e n≡ = rw (sym e, n≡) refl
 

@@ -1,4 +1,5 @@
 -- An empty text is told from none by the code.
+use Rattle.std.specs.Prelude.{Result, Ok, Err}
 use Prim.Native.Nat.{ℕ}
 use mathlib.Core.Path.{◌≡◌, refl, sym, ◌∙◌, ap}
 use mathlib.Core.Bool.{Bool, true, false}
@@ -6,17 +7,16 @@ use mathlib.Core.List.{List, []}
 use lib.ListN.{drop}
 use Rattle.rules.specs.ErrorFile.{is_error_file, error_code, code_of, error_text}
 use Rattle.rules.specs.declared.Cause.{Cause}
-use Rattle.rules.specs.declared.ErrorCode.{ErrorCode}
 use Rattle.error_file.specs.Told.{TextTold, NoText}
 use Rattle.error_file.proofs.File.{headed}
 
-is_code : ErrorCode → Bool
-is_code (ErrorCode.Code n) = true
-is_code (ErrorCode.Refused c) = false
+is_code : Result ℕ Cause → Bool
+is_code (Ok n) = true
+is_code (Err c) = false
 
-cause_of : ErrorCode → Cause
-cause_of (ErrorCode.Code n) = Cause.ErrorFile
-cause_of (ErrorCode.Refused c) = c
+cause_of : Result ℕ Cause → Cause
+cause_of (Ok n) = Cause.ErrorFile
+cause_of (Err c) = c
 
 module _ (s : List ℕ) where
   coded : is_code (code_of (error_code s)) ≡ is_error_file s

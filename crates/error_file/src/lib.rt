@@ -6,7 +6,7 @@ ghost use Rattle.rules.specs.ErrorFile.{is_error_file, error_code, code_of, erro
 ghost use Rattle.error_file.specs.Head.{ascii_digit, Digit, has_head, Headed};
 ghost use Rattle.error_file.specs.Code.{code_in};
 
-use rules::{Cause, ErrorCode};
+use rules::Cause;
 
 mod utf8;
 
@@ -63,13 +63,13 @@ fn code_in(file: &[u8]) -> u16
 }
 
 // The code of an error file, or cause 16 where the file breaks its form.
-pub fn error_code(file: &[u8]) -> ErrorCode
+pub fn error_code(file: &[u8]) -> Result<u16, Cause>
     ensures { result ≡ code_of (error_code file.now) }
 {
     if !is_error_file(file) {
-        return ErrorCode::Refused(Cause::ErrorFile);
+        return Err(Cause::ErrorFile);
     }
-    ErrorCode::Code(code_in(file))
+    Ok(code_in(file))
 }
 
 // 'the message text is handed back as that part of the file'; the empty part where the file breaks its form.

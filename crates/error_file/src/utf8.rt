@@ -1,12 +1,11 @@
 // Valid UTF-8 (RFC 3629, 4), by a walk over the bytes that knows which byte may come next.
-ghost use Rattle.std.specs.Prelude.{◌≡◌, List, ◌∷◌, ℕ};
+ghost use Rattle.std.specs.Prelude.{◌≡◌, List, ◌∷◌, ℕ, Some};
 ghost use Rattle.rules.specs.ErrorFile.{is_lead, more, least, most, utf8};
 ghost use Rattle.error_file.specs.Walk.{rest};
 
-// Whether all bytes so far were right, how many the character still asks for, and the bounds of the first of these.
+// How many bytes the character still asks for, and the bounds of the first of these.
 #[derive(Clone, Copy)]
 struct Walk {
-    good: bool,
     asked: u8,
     low: u8,
     high: u8,
@@ -35,7 +34,7 @@ fn more_after(x: u8) -> u8
     3
 }
 
-// The lower bound of the byte after the lead byte x: an overlong form lies below it.
+// The lower bound of the byte after the lead byte x: an overlong form lies below it. Beside the upper bound, since a table of both is no plainer.
 fn least_after(x: u8) -> u8
     ensures { result ≡ least x }
 {
@@ -61,40 +60,39 @@ fn most_after(x: u8) -> u8
     0xBF
 }
 
-// The walk after the byte x.
-fn step(walk: Walk, x: u8) -> Walk
-    ensures { (xs : List ℕ) → rest walk (x ∷ xs) ≡ rest result xs }
+// The walk after the byte x; none where x may not come next, so that the bytes are no UTF-8.
+fn step(walk: Walk, x: u8) -> Option<Walk>
+    ensures { (xs : List ℕ) → rest (Some walk) (x ∷ xs) ≡ rest result xs }
 {
     if walk.asked == 0 {
-        return Walk {
-            good: walk.good & is_lead(x),
+        return is_lead(x).then_some(Walk {
             asked: more_after(x),
             low: least_after(x),
             high: most_after(x),
-        };
+        });
     }
-    Walk {
-        good: walk.good & ((walk.low <= x) & (x <= walk.high)),
+    ((walk.low <= x) & (x <= walk.high)).then_some(Walk {
         asked: walk.asked - 1,
         low: 0x80,
         high: 0xBF,
-    }
+    })
 }
 
 // Whether the bytes are valid UTF-8.
+// `std::str::from_utf8` is no plainer: its contract speaks of encoded characters, and not of the RFC's bounds, which `utf8` states.
 pub fn is_utf8(s: &[u8]) -> bool
     ensures { result ≡ utf8 s.now }
 {
     let mut walk = Walk {
-        good: true,
         asked: 0,
         low: 0x80,
         high: 0xBF,
     };
-    let mut i = 0;
-    while i < s.len() {
-        walk = step(walk, s[i]);
-        i += 1;
+    for x in s {
+        let Some(next) = step(walk, *x) else {
+            return false;
+        };
+        walk = next;
     }
-    walk.good & (walk.asked == 0)
+    walk.asked == 0
 }

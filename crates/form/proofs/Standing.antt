@@ -1,14 +1,15 @@
 -- What a caller may take from a body whose form is right: where its records stand, how many they are, and how many rates they have.
+use Rattle.std.specs.Option.{option_map}
+use Rattle.std.specs.Prelude.{None, Some, map, slice_get}
 use Prim.Native.Nat.{ℕ, zero, suc, ◌+◌, ◌*◌, ◌≤◌, ◌<◌}
 use mathlib.Core.Path.{◌≡◌, ◌∙◌, refl, ap}
 use mathlib.Core.Bool.{true, Bool, false, cond, ◌&&◌}
 use mathlib.Core.List.{List}
-use mathlib.Core.Option.{some, none, map}
 use native.Mathlib.Nat.{suc-mul}
 use native.Mathlib.Omega.{arith}
 use lib.Dec.{lit≤}
 use borrow.Author.Tests.{eqb-true}
-use lib.ListN.{length, get_elem?, drop, length-drop}
+use lib.ListN.{length, drop, length-drop}
 use lib.Seq.{drop-drop}
 use Rattle.rules.specs.Digits.{part, digits}
 use Rattle.rules.specs.Body.{count_of, tail_digits, rates_of, size_of, record_shape, record_at, Record, schedule, counted, parse_body, is_schedule}
@@ -65,7 +66,7 @@ one_more : (f : Format) (k : ℕ) (t : List ℕ) → rest_after f (suc k) t ≡ 
 one_more f zero t = refl
 one_more f (suc k) t = one_more f k (drop (size_of f t) t)
 
-record-here : (f : Format) (n k : ℕ) (t : List ℕ) → k < n → get_elem? (records_from f n t) k ≡ some (record_at f (rest_after f k t))
+record-here : (f : Format) (n k : ℕ) (t : List ℕ) → k < n → slice_get (records_from f n t) k ≡ Some (record_at f (rest_after f k t))
 unfolding records_from
 record-here f zero k t h = absurd (omega arith)
 record-here f (suc n) zero t h = refl
@@ -87,8 +88,8 @@ rest-is-drop f body (suc k) =
 
 -- record k of a body whose form is right
 module _ (f : Format) (body : List ℕ) (e : shaped f (count_of f) (drop 6 body) ≡ true) (k : ℕ) (h : k < count_of f) where
-  pub record_is : get_elem? (records_from f (count_of f) (drop 6 body)) k ≡ some (record_at f (drop (record_start f body k) body))
-  record_is = record-here f (count_of f) k (drop 6 body) h ∙ ap (λ (t : List ℕ). some (record_at f t)) (rest-is-drop f body k)
+  pub record_is : slice_get (records_from f (count_of f) (drop 6 body)) k ≡ Some (record_at f (drop (record_start f body k) body))
+  record_is = record-here f (count_of f) k (drop 6 body) h ∙ ap (λ (t : List ℕ). Some (record_at f t)) (rest-is-drop f body k)
 
   pub record-shape : record_shape f (drop (record_start f body k) body) ≡ true
   record-shape = rw (rest-is-drop f body k) at (shape-here f (count_of f) k (drop 6 body) h e)
@@ -103,11 +104,11 @@ module _ (f : Format) (body : List ℕ) (e : shaped f (count_of f) (drop 6 body)
 -- ---- what a schedule's body parses as
 
 pub parse_is : (f : Format) (body : List ℕ) → is_schedule f ≡ true
-    → parse_body f body ≡ cond (counted f body && shaped f (count_of f) (drop 6 body)) (some (schedule (records_from f (count_of f) (drop 6 body)))) none
+    → parse_body f body ≡ cond (counted f body && shaped f (count_of f) (drop 6 body)) (Some (schedule (records_from f (count_of f) (drop 6 body)))) None
 unfolding parse_body
 parse_is f body i = rw (rest-is f (drop 6 body) i) (go (counted f body) (shaped f (count_of f) (drop 6 body)) (records_from f (count_of f) (drop 6 body)))
   where
-    go : (c t : Bool) (rs : List Record) → cond c (map schedule (cond t (some rs) none)) none ≡ cond (c && t) (some (schedule rs)) none
+    go : (c t : Bool) (rs : List Record) → cond c (option_map schedule (cond t (Some rs) None)) None ≡ cond (c && t) (Some (schedule rs)) None
     go false t rs = refl
     go true false rs = refl
     go true true rs = refl

@@ -1,10 +1,9 @@
 -- Laws of a walk over records: what their form says, one record on, and that form and fields together are `parse_records`.
+use Rattle.std.specs.Prelude.{None, Some, option_map}
 use Prim.Native.Nat.{ℕ, zero, suc, ◌+◌, ◌-◌, ◌≤◌, ◌<◌}
 use mathlib.Core.Path.{◌≡◌, ◌∙◌, refl, sym, ap}
 use mathlib.Core.Bool.{Bool, true, false, ◌&&◌, cond, and-false, false≢true}
 use mathlib.Core.List.{List, [], ◌∷◌}
-use mathlib.Core.Option.{none, some, map}
-use native.Mathlib.Numerals.{sub-one}
 use native.Mathlib.Omega.{arith}
 use lib.Dec.{leb, eqb, lit≤}
 use lib.ListN.{length, take, drop}
@@ -112,7 +111,7 @@ module _ (f : Format) (s : List ℕ) {n z : ℕ} (k : Sized f s n z) where
         go true false c = refl
         go true true c = refl
 
--- ---- one record on: t is what is left, `left` how many records, z the size of the first
+-- ---- one record on: t is what is left, `left` how many records, k how many after the first, z the first one's size
 
 module _ (f : Format) (t : List ℕ) where
   pub shape-end : (left : ℕ) → left ≤ 0 → shaped f left t ≡ eqb (length t) 0
@@ -120,11 +119,10 @@ module _ (f : Format) (t : List ℕ) where
   shape-end zero h = refl
   shape-end (suc k) h = absurd (omega arith)
 
-  pub shape-step : (left : ℕ) {z : ℕ} {b : Bool} → 0 < left → z ≡ size_of f t → b ≡ record_shape f t
-      → shaped f left t ≡ (b && shaped f (left - 1) (take (length t - z) (drop z t)))
+  pub shape-step : (left : ℕ) {k z : ℕ} {b : Bool} → left ≡ suc k → z ≡ size_of f t → b ≡ record_shape f t
+      → shaped f left t ≡ (b && shaped f k (take (length t - z) (drop z t)))
   unfolding shaped
-  shape-step zero h z≡ b≡ = absurd (omega arith)
-  shape-step (suc k) {z} h z≡ b≡ = rw (b≡, part-rest t z, z≡, sub-one (suc k)) refl
+  shape-step left {k} {z} left≡ z≡ b≡ = rw (left≡, b≡, part-rest t z, z≡) refl
 
   pub shape_stop : (left : ℕ) → 0 < left → record_shape f t ≡ false → shaped f left t ≡ false
   unfolding shaped
@@ -136,11 +134,10 @@ module _ (f : Format) (t : List ℕ) where
   records-end zero h = refl
   records-end (suc k) h = absurd (omega arith)
 
-  pub records-step : (left : ℕ) {z : ℕ} → 0 < left → z ≡ size_of f t
-      → records_from f left t ≡ record_at f t ∷ records_from f (left - 1) (take (length t - z) (drop z t))
+  pub records-step : (left : ℕ) {k z : ℕ} → left ≡ suc k → z ≡ size_of f t
+      → records_from f left t ≡ record_at f t ∷ records_from f k (take (length t - z) (drop z t))
   unfolding records_from
-  records-step zero h z≡ = absurd (omega arith)
-  records-step (suc k) {z} h z≡ = rw (part-rest t z, z≡, sub-one (suc k)) refl
+  records-step left {k} {z} left≡ z≡ = rw (left≡, part-rest t z, z≡) refl
 
   -- the first of the records that are left, and the others
   pub shaped-first : (left : ℕ) → 0 < left → shaped f left t ≡ true → record_shape f t ≡ true
@@ -148,10 +145,9 @@ module _ (f : Format) (t : List ℕ) where
   shaped-first zero h e = absurd (omega arith)
   shaped-first (suc k) h e = (both (record_shape f t) (shaped f k (drop (size_of f t) t)) e).0
 
-  pub shaped-rest : (left : ℕ) {z : ℕ} → 0 < left → z ≡ size_of f t → shaped f left t ≡ true
-      → shaped f (left - 1) (take (length t - z) (drop z t)) ≡ true
-  shaped-rest left {z} h z≡ e =
-      (both (record_shape f t) (shaped f (left - 1) (take (length t - z) (drop z t))) (sym (shape-step left h z≡ refl) ∙ e)).1
+  pub shaped-rest : (left : ℕ) {k z : ℕ} → left ≡ suc k → z ≡ size_of f t → shaped f left t ≡ true
+      → shaped f k (take (length t - z) (drop z t)) ≡ true
+  shaped-rest left {k} {z} left≡ z≡ e = (both (record_shape f t) (shaped f k (take (length t - z) (drop z t))) (sym (shape-step left left≡ z≡ refl) ∙ e)).1
 
   pub whole-first : (left : ℕ) → 0 < left → shaped f left t ≡ true → Whole f t
   whole-first left h e = whole f t (shaped-first left h e)
@@ -165,7 +161,7 @@ unfolding size_of
 within f t w z≡ = omega (arith, w.room)
 
 -- form and fields are what `parse_records` gives
-parse_is : (f : Format) (k : ℕ) (s : List ℕ) → parse_records f k s ≡ cond (shaped f k s) (some (records_from f k s)) none
+parse_is : (f : Format) (k : ℕ) (s : List ℕ) → parse_records f k s ≡ cond (shaped f k s) (Some (records_from f k s)) None
 unfolding parse_records shaped records_from
 parse_is f zero s = refl
 parse_is f (suc k) s =
@@ -173,14 +169,14 @@ parse_is f (suc k) s =
     (go (record_shape f s) (shaped f k (drop (size_of f s) s)) (record_at f s) (records_from f k (drop (size_of f s) s)))
   where
     go : (a b : Bool) (r : Record) (rs : List Record)
-        → cond a (before r (cond b (some rs) none)) none ≡ cond (a && b) (some (r ∷ rs)) none
+        → cond a (before r (cond b (Some rs) None)) None ≡ cond (a && b) (Some (r ∷ rs)) None
     go false b r rs = refl
     go true false r rs = refl
     go true true r rs = refl
 
 pub rest-is : (f : Format) (s : List ℕ) → is_schedule f ≡ true
-    → parse_rest f s ≡ map schedule (cond (shaped f (count_of f) s) (some (records_from f (count_of f) s)) none)
-rest-is F201 s i = ap (map schedule) (parse_is F201 13 s)
-rest-is F202 s i = ap (map schedule) (parse_is F202 1 s)
-rest-is F203 s i = ap (map schedule) (parse_is F203 1 s)
+    → parse_rest f s ≡ option_map schedule (cond (shaped f (count_of f) s) (Some (records_from f (count_of f) s)) None)
+rest-is F201 s i = ap (option_map schedule) (parse_is F201 13 s)
+rest-is F202 s i = ap (option_map schedule) (parse_is F202 1 s)
+rest-is F203 s i = ap (option_map schedule) (parse_is F203 1 s)
 rest-is F301 s i = absurd (false≢true i)

@@ -5,7 +5,6 @@ ghost use Rattle.std.specs.Prelude.{◌≡◌};
 ghost use Rattle.rules.specs.Body.{count_of, counted, record_shape};
 ghost use Rattle.form.specs.Walk.{shaped, registered, Sized};
 
-use digits::Decimal;
 use rules::Format;
 
 // Whether `body` begins with the format's record count.
@@ -16,8 +15,8 @@ pub fn count_holds(format: Format, body: &[u8]) -> bool
         return false;
     }
     match digits::number(&body[0..layout::RECORDS]) {
-        Decimal::Number(n) => n == layout::record_count(format) as u64,
-        Decimal::Broken => false,
+        Some(n) => n == layout::record_count(format) as u64,
+        None => false,
     }
 }
 
@@ -43,16 +42,14 @@ pub fn records_stand(format: Format, s: &[u8]) -> bool
     ensures { result ≡ shaped format (count_of format) s.now }
 {
     let tail = layout::tail_digits(format);
-    let mut left = layout::record_count(format);
     let mut t = s;
-    while 0 < left {
+    for _ in 0..layout::record_count(format) {
         let rates = layout::rate_count(t) as usize;
         let size = layout::RATES + rates + tail;
         if !record_stands(format, rates, size, t) {
             return false;
         }
         t = &t[size..];
-        left -= 1;
     }
     t.len() == 0
 }

@@ -1,9 +1,9 @@
 -- Laws of one group more: of a number's bytes, and of the number that bytes begin with.
+use Rattle.std.specs.Prelude.{Option, None, Some}
 use Prim.Native.Nat.{ℕ, zero, suc, ◌+◌, ◌-◌, ◌*◌, ◌/◌, ◌%◌, ◌^◌, ◌≤◌, ◌<◌}
 use mathlib.Core.Path.{◌≡◌, ◌∙◌, refl, ap}
 use mathlib.Core.Bool.{Bool, true, false, cond}
 use mathlib.Core.List.{List, [], ◌∷◌}
-use mathlib.Core.Option.{Option, none, some}
 use native.Mathlib.Nat.{pow-suc, pow-le-pow_right, lt_of_lt_of_le, mul-add, mul_assoc}
 use native.Mathlib.Omega.{arith}
 use borrow.Author.Tests.{lt-ltb, le-ltb, ne_eqb, eqb-false}
@@ -42,7 +42,7 @@ one_holds k n h = lt_of_lt_of_le h (pow-le-pow_right {n = 128} (lit< tt) {i = 1}
 -- ---- the number that bytes begin with
 
 module _ (k b : ℕ) (s : List ℕ) where
-  pub parse-last : b < 128 → parse_in (suc k) (b ∷ s) ≡ some (b, s)
+  pub parse-last : b < 128 → parse_in (suc k) (b ∷ s) ≡ Some (b, s)
   unfolding parse_in
   parse-last h = rw (lt-ltb b 128 h) refl
 
@@ -50,7 +50,7 @@ module _ (k b : ℕ) (s : List ℕ) where
   unfolding parse_in
   parse-more h l = rw (le-ltb b 128 h, lt-ltb b 256 l) refl
 
-pub onto-some : (low unit v : ℕ) (s : List ℕ) → 0 < v → onto low unit (some (v, s)) ≡ some (low + unit * v, s)
+pub onto-some : (low unit v : ℕ) (s : List ℕ) → 0 < v → onto low unit (Some (v, s)) ≡ Some (low + unit * v, s)
 onto-some low unit v s h = rw (ne_eqb v 0 (λ e. omega arith)) refl
 
 -- what is not 0 is above it
@@ -63,13 +63,13 @@ distributed a u g v = rw (mul-add u g (128 * v), mul_assoc u 128 v) (omega arith
 
 -- two groups below what follows are one of both
 pub onto-onto : (a u g : ℕ) (o : Option (ℕ × List ℕ)) → onto a u (onto g 128 o) ≡ onto (a + u * g) (u * 128) o
-onto-onto a u g none = refl
-onto-onto a u g (some p) = go (eqb p.0 0) refl
+onto-onto a u g None = refl
+onto-onto a u g (Some p) = go (eqb p.0 0) refl
   where
-    go : (t : Bool) → eqb p.0 0 ≡ t → onto a u (cond t none (some (g + 128 * p.0, p.1))) ≡ cond t none (some (a + u * g + u * 128 * p.0, p.1))
+    go : (t : Bool) → eqb p.0 0 ≡ t → onto a u (cond t None (Some (g + 128 * p.0, p.1))) ≡ cond t None (Some (a + u * g + u * 128 * p.0, p.1))
     go true e = refl
     go false e =
         let f = not-zero p.0 e in
         let l : 0 < g + 128 * p.0 = omega arith in
         onto-some a u (g + 128 * p.0) p.1 l
-        ∙ ap (λ (n : ℕ). some (n, p.1)) (distributed a u g p.0)
+        ∙ ap (λ (n : ℕ). Some (n, p.1)) (distributed a u g p.0)

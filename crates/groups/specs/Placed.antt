@@ -1,18 +1,16 @@
 -- A number in groups as the code answers it: read at a place of a slice, and put at one.
-use Rattle.std.specs.Prelude.{ℕ, ◌+◌, ◌-◌, Bool, cond, List, leb, length, drop}
-use Rattle.std.proofs.Math.Option.{Option, none, some}
+use Rattle.std.specs.Prelude.{ℕ, ◌+◌, ◌-◌, Bool, cond, List, leb, length, drop, Option, None, Some}
 use Rattle.std.proofs.Math.Seq.{sets}
 use Rattle.rules.specs.Groups.{parse_groups}
-use Rattle.groups.specs.declared.Reading.{Reading}
-use Rattle.groups.specs.declared.Reading.TheVariants.{Number, Broken}
+use Rattle.groups.specs.declared.Number.{Number}
 
 -- ---- the number at a place of a slice
 
-abbrev pub as_reading : ℕ → Option (ℕ × List ℕ) → Reading
-as_reading n none = Broken
-as_reading n (some p) = Number p.0 (n - length p.1)
+abbrev pub as_reading : ℕ → Option (ℕ × List ℕ) → Option Number
+as_reading n None = None
+as_reading n (Some p) = Some (record { value = p.0; next = n - length p.1 })
 
-unfoldable pub reading_at : List ℕ → ℕ → Reading
+unfoldable pub reading_at : List ℕ → ℕ → Option Number
 reading_at s at = as_reading (length s) (parse_groups (drop at s))
 
 -- ---- bytes put at a place where there is room for all of them, and none of them elsewhere

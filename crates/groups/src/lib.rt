@@ -2,16 +2,16 @@
 // What is read is exactly what is put: a number has one form, the shortest, and no other bytes are read as it.
 #![tactic(auto)]
 
-ghost use Rattle.std.specs.Prelude.{◌≡◌, ◌+◌, ◌≤◌, ◌<◌, ◌^◌, min, length};
+ghost use Rattle.std.specs.Prelude.{◌≡◌, ◌+◌, ◌≤◌, ◌<◌, ◌^◌, length};
 ghost use Rattle.std.proofs.Math.Seq.{sets};
 ghost use Rattle.rules.specs.Groups.{groups};
 ghost use Rattle.groups.specs.Placed.{reading_at, bytes_after, place_after};
 
-// A number and the place after it, or bytes that begin with none: cut, not in the shortest form, or of a sixth group.
-#[derive(Clone, Copy)]
-pub enum Reading {
-    Number { value: u64, next: usize },
-    Broken,
+// A number and the place after it.
+#[derive(Clone, Copy, Debug, PartialEq, Eq)]
+pub struct Number {
+    pub value: u64,
+    pub next: usize,
 }
 
 // 'at most five groups'.
@@ -26,47 +26,38 @@ const EMPTY: u64 = 0;
 // Five groups hold the numbers below this.
 const LIMIT: u64 = 1 << 35;
 
-// The lesser of two places.
-fn lesser(a: usize, b: usize) -> usize
-    ensures { result ≡ min a b }
-{
-    if a <= b { a } else { b }
-}
-
-// The number whose groups stand at place `at`.
-pub fn read(s: &[u8], at: usize) -> Reading
+// The number whose groups stand at place `at`; none where they are cut, not in the shortest form, or of a sixth group.
+pub fn read(s: &[u8], at: usize) -> Option<Number>
     ensures { result ≡ reading_at s.now at }
 {
     if s.len() <= at {
-        return Reading::Broken;
+        return None;
     }
     let first = s[at] as u64;
     if first < MORE {
-        return Reading::Number {
+        return Some(Number {
             value: first,
             next: at + 1,
-        };
+        });
     }
-    let end = lesser(s.len(), at + MOST);
+    let end = s.len().min(at + MOST);
     let mut value = first - MORE;
     let mut unit = MORE;
-    let mut i = at + 1;
-    while i < end {
+    for i in at + 1..end {
         let group = s[i] as u64;
         if group == EMPTY {
-            return Reading::Broken;
+            return None;
         }
         if group < MORE {
-            return Reading::Number {
+            return Some(Number {
                 value: value + unit * group,
                 next: i + 1,
-            };
+            });
         }
         value += unit * (group - MORE);
         unit *= MORE;
-        i += 1;
     }
-    Reading::Broken
+    None
 }
 
 // How many bytes a number has; 0 where it has no groups.
@@ -99,6 +90,7 @@ fn place(n: u64, out: &mut [u8], at: usize) -> usize
 {
     let mut left = n;
     let mut i = at;
+    // A while, since what is left of the number ends it: a `for` over the bytes of `out` is no plainer, as it needs a way out.
     while MORE <= left {
         out[i] = (left % MORE + MORE) as u8;
         left = left / MORE;

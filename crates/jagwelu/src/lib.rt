@@ -1,8 +1,8 @@
-// What C calls, by jagwelu_c: the unit's calls over a struct that C holds, and files read and written without a unit.
+// What C calls, by jagwelu_c: the unit's calls over a struct that C holds, and files read and written without a unit. What is given and
+// answered are numbers and structs of fixed layout, and each function is one of the header's, alike as some are, since C has no other forms.
 #![tactic(auto)]
 
-ghost use Rattle.std.specs.Prelude.{◌≡◌, length};
-ghost use Rattle.std.proofs.Math.Option.{none, some};
+ghost use Rattle.std.specs.Prelude.{◌≡◌, length, None, Some};
 ghost use Rattle.rules.specs.ErrorFile.{error_code, code_of};
 ghost use Rattle.rules.specs.File.{read_file};
 ghost use Rattle.rules.specs.Name.{format_of};
@@ -23,7 +23,9 @@ ghost use Rattle.c_answers.specs.Answers.{due_numbers, ceiling_numbers, command_
 use c_answers::{CeilingAnswer, DueAnswer, ErrorAnswer, FileAnswer, Number, WrittenBytes};
 use c_bodies::RecordPlaces;
 use c_structs::{Handed, HeldSettings, HeldUnit};
-use rules::{Cause, ErrorCode, Kind};
+use plan::Fields;
+use plant::GivenSettings;
+use rules::{Cause, Kind};
 use unit::Unit;
 
 // The bytes of an error file before its text.
@@ -32,24 +34,21 @@ const TEXT_PLACE: usize = 6;
 pub fn jag_install(id: &[u8], mac: &[u8], settings: HeldSettings) -> Handed
     ensures { result ≡ newly (installed_unit id.now mac.now (settings_in settings)) }
 {
-    let given = c_structs::given_settings(settings);
-    let installed = Unit::install(id, mac, given);
-    c_structs::hand_new(installed)
+    let given = GivenSettings::from(settings);
+    Handed::from(Unit::install(id, mac, given))
 }
 
 pub fn jag_tick(unit: HeldUnit, second: u64, store: &[u8]) -> Handed
     ensures { result ≡ handed unit (tick_of (opened unit) store.now second) }
 {
-    let opened = c_structs::open(unit);
-    let done = opened.tick(second, store);
+    let done = Unit::from(unit).tick(second, store);
     c_structs::hand(unit, done)
 }
 
 pub fn jag_clock_lost(unit: HeldUnit) -> Handed
     ensures { result ≡ handed unit (lost_of (opened unit)) }
 {
-    let opened = c_structs::open(unit);
-    let done = opened.clock_lost();
+    let done = Unit::from(unit).clock_lost();
     c_structs::hand(unit, done)
 }
 
@@ -57,8 +56,7 @@ pub fn jag_take_file(unit: HeldUnit, name: &[u8], body: &[u8], store: &mut [u8])
     ensures answer { result ≡ handed unit (take_of (opened unit) store.old name.now body.now) }
     ensures kept { store.new ≡ store_after_take (opened unit) store.old name.now body.now }
 {
-    let opened = c_structs::open(unit);
-    let done = taking::take_file(opened, name, body, store);
+    let done = taking::take_file(Unit::from(unit), name, body, store);
     c_structs::hand(unit, done)
 }
 
@@ -71,8 +69,7 @@ pub fn jag_take_response(
     ensures answer { result ≡ handed unit (response_of (opened unit) store.old boundary.now response.now) }
     ensures kept { store.new ≡ store_after_response (opened unit) store.old boundary.now response.now }
 {
-    let opened = c_structs::open(unit);
-    let done = taking::take_response(opened, boundary, response, store);
+    let done = taking::take_response(Unit::from(unit), boundary, response, store);
     c_structs::hand(unit, done)
 }
 
@@ -80,8 +77,7 @@ pub fn jag_take_response(
 fn failed(unit: HeldUnit, kind: Kind, status: u64) -> Handed
     ensures { result ≡ handed unit (failure_of (opened unit) kind status) }
 {
-    let opened = c_structs::open(unit);
-    let done = opened.failure(kind, status);
+    let done = Unit::from(unit).failure(kind, status);
     c_structs::hand(unit, done)
 }
 
@@ -100,51 +96,38 @@ pub fn jag_fixed_failed(unit: HeldUnit, status: u64) -> Handed
 pub fn jag_due(unit: HeldUnit) -> DueAnswer
     ensures { result ≡ due_numbers (due_of (opened unit)) }
 {
-    let opened = c_structs::open(unit);
-    let asked = opened.due();
-    let due = asked.answer;
-    c_answers::due_answer(due)
+    DueAnswer::from(Unit::from(unit).due().answer)
 }
 
 pub fn jag_ceiling(unit: HeldUnit, slot: u64, store: &[u8]) -> CeilingAnswer
     ensures { result ≡ ceiling_numbers (ceiling_of (opened unit) store.now slot) }
 {
-    let opened = c_structs::open(unit);
-    let asked = opened.ceiling(slot, store);
-    let ceiling = asked.answer;
-    c_answers::ceiling_answer(ceiling)
+    CeilingAnswer::from(Unit::from(unit).ceiling(slot, store).answer)
 }
 
 pub fn jag_command(unit: HeldUnit) -> Number
     ensures { result ≡ command_number (command_of (opened unit)) }
 {
-    let opened = c_structs::open(unit);
-    let asked = opened.command();
-    let command = asked.answer;
-    c_answers::command_number(command)
+    Number::from(Unit::from(unit).command().answer)
 }
 
 pub fn jag_free_blocks(unit: HeldUnit) -> Number
     ensures { result ≡ blocks_number (free_of (opened unit)) }
 {
-    let opened = c_structs::open(unit);
-    let asked = opened.free_blocks();
-    let free = asked.answer;
-    c_answers::blocks_number(free)
+    Number::from(Unit::from(unit).free_blocks().answer)
 }
 
 pub fn jag_check(unit: HeldUnit, store: &[u8]) -> u32
     ensures { result ≡ check_number (opened unit) store.now }
 {
     if store.len() != Unit::STORE_LENGTH {
-        return rules::cause_number(Cause::StoreLength);
+        return u32::from(Cause::StoreLength);
     }
-    let opened = c_structs::open(unit);
-    let pool = opened.pool;
-    if opened.sound() & schedule::store_holds(pool, store) {
+    let opened = Unit::from(unit);
+    if opened.sound() & schedule::store_holds(opened.pool, store) {
         0
     } else {
-        rules::cause_number(Cause::Unsound)
+        u32::from(Cause::Unsound)
     }
 }
 
@@ -152,40 +135,33 @@ pub fn jag_request(unit: HeldUnit, segment: &[u8], out: &mut [u8]) -> WrittenByt
     ensures answer { result ≡ written_numbers (written_of (request_of (opened unit) segment.now (length out.old))) }
     ensures buffer { out.new ≡ buffer_after (request_of (opened unit) segment.now (length out.old)) out.old }
 {
-    let opened = c_structs::open(unit);
-    let asked = opened.request(segment, out);
-    let written = asked.answer;
-    c_answers::written_bytes(written)
+    WrittenBytes::from(Unit::from(unit).request(segment, out).answer)
 }
 
 pub fn jag_read(name: &[u8], body: &[u8]) -> FileAnswer
-    ensures { result ≡ file_numbers (reading_of (read_file none name.now body.now)) }
+    ensures { result ≡ file_numbers (reading_of (read_file None name.now body.now)) }
 {
-    let reading = transfer::read(name, body);
-    c_answers::file_answer(reading)
+    FileAnswer::from(transfer::read(name, body))
 }
 
 // For a plant whose ID is given: a file for another is refused with 8.
 pub fn jag_read_for(plant: &[u8], name: &[u8], body: &[u8]) -> FileAnswer
-    ensures { result ≡ file_numbers (reading_of (read_file (some plant.now) name.now body.now)) }
+    ensures { result ≡ file_numbers (reading_of (read_file (Some plant.now) name.now body.now)) }
 {
-    let reading = transfer::read_for(plant, name, body);
-    c_answers::file_answer(reading)
+    FileAnswer::from(transfer::read_for(plant, name, body))
 }
 
 pub fn jag_record(format: u32, body: &[u8], index: usize) -> RecordPlaces
     ensures { result ≡ places_numbers (locate_by (format_of format) body.now index) }
 {
-    let found = c_bodies::located(format, body, index);
-    c_bodies::record_places(found)
+    RecordPlaces::from(c_bodies::located(format, body, index))
 }
 
 pub fn jag_copy_rates(format: u32, body: &[u8], out: &mut [u8]) -> WrittenBytes
     ensures answer { result ≡ written_numbers (written_of (rates_by (format_of format) body.now (length out.old))) }
     ensures buffer { out.new ≡ buffer_after (rates_by (format_of format) body.now (length out.old)) out.old }
 {
-    let written = c_bodies::copied(format, body, out);
-    c_answers::written_bytes(written)
+    WrittenBytes::from(c_bodies::copied(format, body, out))
 }
 
 pub fn jag_write_body(
@@ -201,25 +177,31 @@ pub fn jag_write_body(
     ensures answer { result ≡ written_numbers (written_of (write_body (fields_of format plant.now schedule.now start.now next.now rates.now flag) (length out.old))) }
     ensures buffer { out.new ≡ buffer_after (write_body (fields_of format plant.now schedule.now start.now next.now rates.now flag) (length out.old)) out.old }
 {
-    let written = writer::write_body(format, plant, schedule, start, next, rates, flag, out);
-    c_answers::written_bytes(written)
+    let fields = Fields {
+        format,
+        plant,
+        schedule,
+        start,
+        next,
+        rates,
+        flag,
+    };
+    WrittenBytes::from(writer::write_body(fields, out))
 }
 
 pub fn jag_error_file(file: &[u8]) -> ErrorAnswer
     ensures { result ≡ error_numbers (code_of (error_code file.now)) file.now }
 {
     match error_file::error_code(file) {
-        ErrorCode::Code(code) => ErrorAnswer {
+        Ok(code) => ErrorAnswer {
             text_at: TEXT_PLACE,
             text_length: file.len() - TEXT_PLACE,
             cause: 0,
             code: code as u32,
         },
-        ErrorCode::Refused(cause) => ErrorAnswer {
-            text_at: 0,
-            text_length: 0,
-            cause: rules::cause_number(cause),
-            code: 0,
+        Err(cause) => ErrorAnswer {
+            cause: u32::from(cause),
+            ..ErrorAnswer::default()
         },
     }
 }

@@ -2,8 +2,7 @@
 // is a library, over which theorems are proved, or a static library, and not both.
 #![tactic(auto)]
 
-ghost use Rattle.std.specs.Prelude.{◌≡◌, length};
-ghost use Rattle.std.proofs.Math.Option.{none, some};
+ghost use Rattle.std.specs.Prelude.{◌≡◌, length, None, Some};
 ghost use Rattle.rules.specs.ErrorFile.{error_code, code_of};
 ghost use Rattle.rules.specs.File.{read_file};
 ghost use Rattle.rules.specs.Name.{format_of};
@@ -131,7 +130,7 @@ pub extern "C" fn jag_request(unit: HeldUnit, segment: &[u8], out: &mut [u8]) ->
 
 #[unsafe(no_mangle)]
 pub extern "C" fn jag_read(name: &[u8], body: &[u8]) -> FileAnswer
-    ensures { result ≡ file_numbers (reading_of (read_file none name.now body.now)) }
+    ensures { result ≡ file_numbers (reading_of (read_file None name.now body.now)) }
 {
     jagwelu::jag_read(name, body)
 }
@@ -139,7 +138,7 @@ pub extern "C" fn jag_read(name: &[u8], body: &[u8]) -> FileAnswer
 // For a plant whose ID is given: a file for another is refused with 8.
 #[unsafe(no_mangle)]
 pub extern "C" fn jag_read_for(plant: &[u8], name: &[u8], body: &[u8]) -> FileAnswer
-    ensures { result ≡ file_numbers (reading_of (read_file (some plant.now) name.now body.now)) }
+    ensures { result ≡ file_numbers (reading_of (read_file (Some plant.now) name.now body.now)) }
 {
     jagwelu::jag_read_for(plant, name, body)
 }

@@ -1,9 +1,9 @@
 -- Laws of tests: what tests joined say, when two tests are the same; and that nothing is not something.
+use Rattle.std.specs.Prelude.{Option, None, Some}
 use Prim.Native.Nat.{ℕ}
 use mathlib.Core.Path.{◌≡◌, refl, sym}
 use mathlib.Core.Logic.{◌⊎◌, inl, inr}
 use mathlib.Core.Bool.{Bool, true, false, not, ◌&&◌, ◌||◌, true≢false, false≢true}
-use mathlib.Core.Option.{Option, none, some}
 use native.Mathlib.Omega.{arith}
 use lib.Dec.{leb, ltb}
 use borrow.Author.Tests.{leb-true, leb-false, lt-ltb, le-ltb}
@@ -41,5 +41,5 @@ below-is a b = go (leb b a) refl
     go true e = le-ltb a b (leb-true b a e)
     go false e = lt-ltb a b (leb-false b a e)
 
-pub no-some : {A X : Type 0} {a : A} → ◌≡◌ {A = Option A} none (some a) → X
+pub no-some : {A X : Type 0} {a : A} → ◌≡◌ {A = Option A} None (Some a) → X
 no-some e = let z : ◌≡◌ {A = ℕ} 0 1 = cc in absurd (omega arith)

@@ -1,9 +1,9 @@
 -- Laws of starts and next accesses: what the calendar's answers say of them, the months of segments, and the tests of whole months and of a 203.
+use Rattle.std.specs.Prelude.{Some, None}
 use Prim.Native.Nat.{ℕ, ◌+◌, ◌-◌, ◌*◌, ◌/◌, ◌%◌}
 use mathlib.Core.Path.{◌≡◌, ◌∙◌, refl, sym}
 use mathlib.Core.Bool.{Bool, true, false, cond, ◌&&◌, and-false, and-true}
 use mathlib.Core.List.{List}
-use mathlib.Core.Option.{none, some}
 use native.Mathlib.Omega.{arith}
 use lib.Dec.{leb, eqb}
 use borrow.Author.Tests.{eqb-true}
@@ -12,14 +12,12 @@ use Rattle.rules.specs.Calendar.{slots_of_day, slot_count, days_of_month, slots_
 use Rattle.rules.specs.Name.{segment_month}
 use Rattle.rules.specs.File.{month_begins, in_time}
 use Rattle.laws.proofs.Tests.{both}
-use Rattle.calendar.specs.Moments.{moment_of, month_begun}
-use Rattle.calendar.specs.declared.dates.Moment.TheVariants.{At, Missing}
-use Rattle.calendar.specs.declared.dates.Begun.TheVariants.{Month, Nothing}
-use Rattle.calendar.proofs.DateLaws.{missing-none, at_some, cond-none}
+use Rattle.calendar.specs.Moments.{month_begun}
+use Rattle.calendar.proofs.DateLaws.{cond-none}
 use Rattle.calendar.proofs.Begins.{begun-facts, begun-none}
 use Rattle.layout.specs.Dates.{month_holds, update_holds}
 
-cond-some : (b : Bool) (x : ℕ) {t : ℕ} → cond b (some x) none ≡ some t → b ≡ true
+cond-some : (b : Bool) (x : ℕ) {t : ℕ} → cond b (Some x) None ≡ Some t → b ≡ true
 cond-some true x e = refl
 cond-some false x e = let z : ◌≡◌ {A = ℕ} 0 1 = cc in absurd (omega arith)
 
@@ -33,7 +31,7 @@ segment-month-is n b e =
 
 -- a start that is a slot's
 module _ (t : List ℕ) where
-  pub is-start : {k : ℕ} → start_slot t ≡ some k → (digits 12 t ≡ true) × (exists (whole_minute t) ≡ true) × (half_hour t ≡ true)
+  pub is-start : {k : ℕ} → start_slot t ≡ Some k → (digits 12 t ≡ true) × (exists (whole_minute t) ≡ true) × (half_hour t ≡ true)
   unfolding start_slot
   is-start e =
       let r = cond-some (digits 12 t && exists (whole_minute t) && half_hour t) (slot_of (seconds_of (whole_minute t))) e in
@@ -42,22 +40,22 @@ module _ (t : List ℕ) where
       (a.0, a.1, b.1)
 
   pub start-some : digits 12 t ≡ true → exists (whole_minute t) ≡ true → half_hour t ≡ true
-      → start_slot t ≡ some (slot_of (seconds_of (whole_minute t)))
+      → start_slot t ≡ Some (slot_of (seconds_of (whole_minute t)))
   unfolding start_slot
   start-some d e h = rw (d, e, h) refl
 
 -- ---- a next access
 
 module _ (u : List ℕ) where
-  no-moment : moment u ≡ none → (digits 14 u && exists u) ≡ false
+  no-moment : moment u ≡ None → (digits 14 u && exists u) ≡ false
   unfolding moment
   no-moment e = cond-none (digits 14 u && exists u) (seconds_of u) e
 
-  is-moment : {k : ℕ} → moment u ≡ some k → (digits 14 u && exists u) ≡ true
+  is-moment : {k : ℕ} → moment u ≡ Some k → (digits 14 u && exists u) ≡ true
   unfolding moment
   is-moment e = cond-some (digits 14 u && exists u) (seconds_of u) e
 
-  pub moment-some : digits 14 u ≡ true → exists u ≡ true → moment u ≡ some (seconds_of u)
+  pub moment-some : digits 14 u ≡ true → exists u ≡ true → moment u ≡ Some (seconds_of u)
   unfolding moment
   moment-some d e = rw (d, e) refl
 
@@ -77,11 +75,11 @@ module _ (m n : ℕ) (t : List ℕ) where
       go true true true true d = refl
       go true true true false d = refl
 
-  pub no-month : Nothing ≡ month_begun t → false ≡ month_holds m t n
+  pub no-month : None ≡ month_begun t → false ≡ month_holds m t n
   no-month e = sym (month-test ∙ rw (begun-none t e) refl)
 
   -- k is the month of the start, y its days
-  pub is-month : (k y : ℕ) → Month k ≡ month_begun t → y ≡ days_of_month k → (eqb k m && eqb n (slots_of_day * y)) ≡ month_holds m t n
+  pub is-month : (k y : ℕ) → Some k ≡ month_begun t → y ≡ days_of_month k → (eqb k m && eqb n (slots_of_day * y)) ≡ month_holds m t n
   is-month k y e y≡ =
       let f = begun-facts t k e in
       sym (month-test ∙ rw (f.form, f.there, f.first, ← f.month, y≡) (sym (go (eqb k m) refl)))
@@ -93,15 +91,15 @@ module _ (m n : ℕ) (t : List ℕ) where
 -- ---- the dates of a 203
 
 module _ (n : ℕ) (t u : List ℕ) where
-  pub update-no-start : Missing ≡ moment_of (start_slot t) → false ≡ update_holds t n u
+  pub update-no-start : None ≡ start_slot t → false ≡ update_holds t n u
   unfolding update_holds
-  update-no-start e = rw (missing-none (start_slot t) e) refl
+  update-no-start e = rw (sym e) refl
 
-  pub update-no-next : Missing ≡ moment_of (moment u) → false ≡ update_holds t n u
+  pub update-no-next : None ≡ moment u → false ≡ update_holds t n u
   unfolding update_holds
-  update-no-next e = rw (no-moment u (missing-none (moment u) e)) (sym (and-false (in_time n (start_slot t))))
+  update-no-next e = rw (no-moment u (sym e)) (sym (and-false (in_time n (start_slot t))))
 
-  pub update-is : (k j : ℕ) → At k ≡ moment_of (start_slot t) → At j ≡ moment_of (moment u) → leb (k + n) slot_count ≡ update_holds t n u
+  pub update-is : (k j : ℕ) → Some k ≡ start_slot t → Some j ≡ moment u → leb (k + n) slot_count ≡ update_holds t n u
   unfolding update_holds
   update-is k j e g =
-      rw (at_some (start_slot t) k e, is-moment u (at_some (moment u) j g)) (sym (and-true (leb (k + n) slot_count)))
+      rw (sym e, is-moment u (sym g)) (sym (and-true (leb (k + n) slot_count)))

@@ -4,7 +4,6 @@ ghost use Rattle.rules.specs.Digits.{decimal};
 ghost use Rattle.rules.specs.Name.{segment_month};
 ghost use Rattle.layout.specs.Dates.{month_holds, update_holds};
 
-use calendar::{Begun, Moment};
 use rules::SLOTS_OF_DAY;
 
 const MONTHS_OF_YEAR: u16 = 12;
@@ -35,7 +34,7 @@ pub fn segment_month(segment: u16) -> u16
 pub fn is_whole_month(month: u16, start: &[u8], rates: u32) -> bool
     ensures { result ≡ month_holds month start.now rates }
 {
-    let Begun::Month(begun) = calendar::month_begun(start) else {
+    let Some(begun) = calendar::month_begun(start) else {
         return false;
     };
     let slots = SLOTS_OF_DAY * calendar::days_of_month(begun) as u32;
@@ -46,10 +45,10 @@ pub fn is_whole_month(month: u16, start: &[u8], rates: u32) -> bool
 pub fn is_update(start: &[u8], rates: u32, next: &[u8]) -> bool
     ensures { result ≡ update_holds start.now rates next.now }
 {
-    let Moment::At(slot) = calendar::start_slot(start) else {
+    let Some(slot) = calendar::start_slot(start) else {
         return false;
     };
-    let Moment::At(_) = calendar::read_moment(next) else {
+    let Some(_) = calendar::read_moment(next) else {
         return false;
     };
     slot as u64 + rates as u64 <= SLOT_COUNT

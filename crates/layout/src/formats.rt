@@ -23,11 +23,10 @@ pub const LONGEST_BODY: usize = RECORDS
 pub fn record_count(format: Format) -> u32
     ensures { result ≡ count_of format }
 {
-    match format {
-        Format::F201 => YEARLY_RECORDS,
-        Format::F202 => 1,
-        Format::F203 => 1,
-        Format::F301 => 1,
+    if format == Format::F201 {
+        YEARLY_RECORDS
+    } else {
+        1
     }
 }
 
@@ -36,8 +35,7 @@ pub fn most_rates(format: Format) -> u32
     ensures { result ≡ most_rates format }
 {
     match format {
-        Format::F201 => LARGEST_COUNT,
-        Format::F202 => LARGEST_COUNT,
+        Format::F201 | Format::F202 => LARGEST_COUNT,
         Format::F203 => UPDATE_RATES,
         Format::F301 => 0,
     }
@@ -48,11 +46,10 @@ pub fn flag_digits(format: Format) -> usize
     ensures exact { result ≡ flag_digits format }
     ensures bound { result ≤ 1 }
 {
-    match format {
-        Format::F201 => 0,
-        Format::F202 => 0,
-        Format::F203 => FLAG_DIGITS,
-        Format::F301 => 0,
+    if format == Format::F203 {
+        FLAG_DIGITS
+    } else {
+        0
     }
 }
 
@@ -61,11 +58,10 @@ pub fn next_digits(format: Format) -> usize
     ensures exact { result ≡ next_digits format }
     ensures bound { result ≤ 14 }
 {
-    match format {
-        Format::F201 => 0,
-        Format::F202 => 0,
-        Format::F203 => NEXT_DIGITS,
-        Format::F301 => 0,
+    if format == Format::F203 {
+        NEXT_DIGITS
+    } else {
+        0
     }
 }
 
@@ -89,10 +85,5 @@ pub fn fixed_bytes(format: Format) -> usize
 pub fn is_schedule(format: Format) -> bool
     ensures { result ≡ is_schedule format }
 {
-    match format {
-        Format::F201 => true,
-        Format::F202 => true,
-        Format::F203 => true,
-        Format::F301 => false,
-    }
+    format != Format::F301
 }

@@ -1,9 +1,9 @@
 -- The lister needs to read no more than `enough` bytes of its input: the line is the same, for every input.
+use Rattle.std.specs.Prelude.{Option, None, Some}
 use Prim.Native.Nat.{ℕ, zero, suc, ◌+◌, ◌-◌, ◌<◌}
 use mathlib.Core.Path.{◌≡◌, ◌∙◌, refl, sym, ap, ap₂}
 use mathlib.Core.Bool.{Bool, true, false, cond}
 use mathlib.Core.List.{List, [], ◌∷◌}
-use mathlib.Core.Option.{Option, none, some}
 use native.Mathlib.Omega.{arith}
 use borrow.Author.Tests.{leb-true, leb-false, eqb-true, eqb-false, ne_eqb}
 use lib.Dec.{leb, eqb, lit<}
@@ -63,12 +63,12 @@ unfolding read_file
 read-bounded plant name body = go (parse_name name)
   where
     go : (o : Option Name) → with_name plant (take (longest_body + 1) body) o ≡ with_name plant body o
-    go none = refl
-    go (some n) = ap (λ (b : Option Body). need (id_fits plant n.plant) (refuse Cause.OtherPlant) (with_body n b)) (body-bounded n.format body)
+    go None = refl
+    go (Some n) = ap (λ (b : Option Body). need (id_fits plant n.plant) (refuse Cause.OtherPlant) (with_body n b)) (body-bounded n.format body)
 
 -- ---- a name of another length is refused, whatever follows
 
-other_length : (s : List ℕ) → (length s ≡ name_length → ⊥) → parse_name s ≡ none
+other_length : (s : List ℕ) → (length s ≡ name_length → ⊥) → parse_name s ≡ None
 unfolding parse_name name_shape
 other_length s h = rw (ne_eqb (length s) name_length h) refl
 
@@ -86,14 +86,14 @@ unfolding line
 line-bounded x = ap line_of (go (eqb (length (name_part x)) name_length) refl)
   where
     go : (t : Bool) → eqb (length (name_part x)) name_length ≡ t
-        → read_file none (name_part (take enough x)) (body_part (take enough x)) ≡ read_file none (name_part x) (body_part x)
+        → read_file None (name_part (take enough x)) (body_part (take enough x)) ≡ read_file None (name_part x) (body_part x)
     go true h =
         let l : length (name_part x) ≡ name_length = eqb-true (length (name_part x)) name_length h in
         let n : name_part (take enough x) ≡ name_part x = name-take enough x ∙ take_all enough (name_part x) (omega arith) in
         let e : enough - (length (name_part x) + 1) ≡ longest_body + 1 = omega arith in
         let b : body_part (take enough x) ≡ take (longest_body + 1) (body_part x) = body-take enough x (omega arith) ∙ ap (λ (j : ℕ). take j (body_part x)) e in
-        ap₂ (read_file none) n b ∙ read-bounded none (name_part x) (body_part x)
+        ap₂ (read_file None) n b ∙ read-bounded None (name_part x) (body_part x)
     go false h =
         let d = eqb-false (length (name_part x)) name_length h in
-        unnamed none (name_part (take enough x)) (body_part (take enough x)) (still_other enough x (lit< tt) d)
-        ∙ sym (unnamed none (name_part x) (body_part x) d)
+        unnamed None (name_part (take enough x)) (body_part (take enough x)) (still_other enough x (lit< tt) d)
+        ∙ sym (unnamed None (name_part x) (body_part x) d)

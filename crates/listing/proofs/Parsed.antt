@@ -1,9 +1,10 @@
 -- No body that parses is longer than the longest.
+use Rattle.std.specs.Option.{option_map}
+use Rattle.std.specs.Prelude.{Option, None, Some}
 use Prim.Native.Nat.{ℕ, ◌+◌, ◌-◌, ◌*◌, ◌≤◌, ◌<◌}
 use mathlib.Core.Path.{◌≡◌, refl, sym}
 use mathlib.Core.Bool.{Bool, true, false, cond}
 use mathlib.Core.List.{List}
-use mathlib.Core.Option.{Option, none, some, map}
 use native.Mathlib.Omega.{arith}
 use borrow.Author.Tests.{ne_eqb}
 use lib.ListN.{length, drop, length-drop}
@@ -15,17 +16,17 @@ use Rattle.about_files.proofs.Body.{records-exactly}
 use Rattle.listing.specs.Bound.{longest_body}
 
 -- the records of a body that parses, and its bytes, are bounded by their form
-too_long : (f : Format) (k : ℕ) (s : List ℕ) → k * (53 + most_rates f + tail_digits f) < length s → map schedule (parse_records f k s) ≡ none
+too_long : (f : Format) (k : ℕ) (s : List ℕ) → k * (53 + most_rates f + tail_digits f) < length s → option_map schedule (parse_records f k s) ≡ None
 too_long f k s h = go (parse_records f k s) refl
   where
-    go : (o : Option (List Record)) → parse_records f k s ≡ o → map schedule o ≡ none
-    go none e = refl
-    go (some rs) e =
+    go : (o : Option (List Record)) → parse_records f k s ≡ o → option_map schedule o ≡ None
+    go None e = refl
+    go (Some rs) e =
         let p = (records-exactly f k s rs).0 e in
         let most : length s ≤ k * (53 + most_rates f + tail_digits f) = rw (p.0, sym p.1) (bounded f rs p.2).bytes in
         absurd (omega arith)
 
-rest-none : (f : Format) (s : List ℕ) → longest_body < length s → parse_rest f (drop 6 s) ≡ none
+rest-none : (f : Format) (s : List ℕ) → longest_body < length s → parse_rest f (drop 6 s) ≡ None
 unfolding parse_registration
 rest-none F201 s h = too_long F201 13 (drop 6 s) (rw length-drop (omega arith))
 rest-none F202 s h = too_long F202 1 (drop 6 s) (rw length-drop (omega arith))
@@ -35,10 +36,10 @@ rest-none F301 s h =
     rw (ne_eqb (length (drop 6 s)) 27 (omega arith)) refl
 
 -- no format has a body that is longer than the longest
-pub long-none : (f : Format) (s : List ℕ) → longest_body < length s → parse_body f s ≡ none
+pub long-none : (f : Format) (s : List ℕ) → longest_body < length s → parse_body f s ≡ None
 unfolding parse_body
 long-none f s h = rw (rest-none f s h) (same (counted f s))
   where
-    same : (b : Bool) → ◌≡◌ {A = Option Body} (cond b none none) none
+    same : (b : Bool) → ◌≡◌ {A = Option Body} (cond b None None) None
     same true = refl
     same false = refl

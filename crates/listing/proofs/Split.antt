@@ -1,30 +1,29 @@
 -- Laws of the split at the first 0A: where the name ends, and what stands before and behind that place.
-use Prim.Native.Nat.{ℕ, suc, ◌+◌, ◌-◌, ◌≤◌, ◌<◌, min}
+use Prim.Native.Nat.{ℕ, suc, ◌+◌, ◌-◌, ◌≤◌, min}
 use mathlib.Core.Path.{◌≡◌, ◌∙◌, refl, sym, ap}
 use mathlib.Core.Bool.{Bool, true, false, cond}
 use mathlib.Core.List.{List, [], ◌∷◌}
 use native.Mathlib.Numerals.{add-one}
 use native.Mathlib.Omega.{arith}
-use borrow.Author.Tests.{eq-eqb, ne_eqb}
-use lib.Dec.{eqb}
-use lib.ListN.{length, get_or, take, drop, drop_of_length-le, length-take}
+use borrow.Author.Tests.{ltb-false}
+use lib.Dec.{eqb, ltb}
+use lib.ListN.{length, take, drop, length-take}
 use Rattle.rules.specs.Lister.{name_part, body_part}
-use Rattle.laws.proofs.Bytes.{at_next, drop-most, part-rest}
+use Rattle.laws.proofs.Bytes.{drop-most, part-rest}
+use Rattle.std.specs.List.{position, position_or_len}
+use Rattle.std.specs.Option.{unwrap_or}
+use Rattle.std.proofs.Common.{Some, None}
+use Rattle.std.proofs.lemmas.List.Recursion.{is_position_or_len}
 
--- ---- a loop that looks at one byte after another
+-- ---- the place of the first 0A, or the length where there is none
 
-module _ (x : List ℕ) (i : ℕ) where
-  pub name-more : i < length x → (get_or x i 0 ≡ 10 → ⊥) → i + length (name_part (drop i x)) ≡ i + 1 + length (name_part (drop (i + 1) x))
-  unfolding name_part
-  name-more h ne = rw (at_next x i h) (rw (ne_eqb (get_or x i 0) 10 ne) (omega arith))
-
-  pub name-stops : i < length x → get_or x i 0 ≡ 10 → i + length (name_part (drop i x)) ≡ i
-  unfolding name_part
-  name-stops h e = rw (at_next x i h) (rw (eq-eqb (get_or x i 0) 10 e) (omega arith))
-
-  pub name-ends : length x ≤ i → i + length (name_part (drop i x)) ≡ i
-  unfolding name_part
-  name-ends h = rw drop_of_length-le (omega arith)
+name-place : (x : List ℕ) → length (name_part x) ≡ position_or_len (λ (b : ℕ). eqb b 10) x
+unfolding name_part
+name-place = is_position_or_len (λ (x : List ℕ). length (name_part x)) (λ (b : ℕ). eqb b 10) refl (λ b x. go (eqb b 10) b x)
+  where
+    go : (t : Bool) (b : ℕ) (x : List ℕ) → length (cond t [] (b ∷ name_part x)) ≡ cond t 0 (1 + length (name_part x))
+    go true b x = refl
+    go false b x = omega arith
 
 -- ---- the parts by that place
 
@@ -50,6 +49,14 @@ body-behind (b ∷ x) = rw add-one (go (eqb b 10) (rw add-one at (body-behind x)
 
 pub name-within : (x : List ℕ) → length (name_part x) ≤ length x
 name-within x = omega (arith, ap length (name-before x), length-take (length (name_part x)) x)
+
+pub name-found : (x : List ℕ) → unwrap_or (position (λ (b : ℕ). eqb b 10) x) (length x) ≡ length (name_part x)
+name-found x = rw (sym (name-place x)) (go (ltb (length (name_part x)) (length x)) refl)
+  where
+    go : (t : Bool) → ltb (length (name_part x)) (length x) ≡ t
+        → unwrap_or (cond t (Some (length (name_part x))) None) (length x) ≡ length (name_part x)
+    go true e = refl
+    go false e = omega (arith, ltb-false (length (name_part x)) (length x) e, name-within x)
 
 -- ---- the body as a part of a slice: from past the 0A on, or nothing where there is none
 

@@ -1,9 +1,9 @@
 -- The lister's line as a value: its bytes, then zeros, and its length.
-use Rattle.std.specs.Prelude.{ℕ, ◌+◌, ◌-◌, ◌<◌, List, [], ◌∷◌, ◌++◌, length, replicate, set}
+use Rattle.std.specs.Prelude.{ℕ, ◌+◌, ◌-◌, ◌<◌, List, [], ◌∷◌, ◌++◌, length, replicate, set, Result, Ok, Err}
 use Rattle.rules.specs.Lister.{numeral}
 use Rattle.rules.specs.Causes.{Said, refused_by, gives, FileValues, of_reading}
-use Rattle.rules.specs.declared.Reading.{Reading}
-use Rattle.rules.specs.declared.Reading.TheVariants.{Read, Refused}
+use Rattle.rules.specs.declared.Cause.{Cause}
+use Rattle.rules.specs.declared.Summary.{Summary}
 use Rattle.listing.specs.declared.Line.{Line}
 
 -- as many bytes as a line has room for
@@ -35,10 +35,10 @@ abbrev pub text_by : Said FileValues → List ℕ
 text_by (gives f) = ok_text f.format f.records f.rates
 text_by (refused_by n) = refused_text n
 
-abbrev pub text_of : Reading → List ℕ
+abbrev pub text_of : Result Summary Cause → List ℕ
 text_of r = text_by (of_reading r)
 
 -- a reading whose text fits a line: no file that reads well has 100 records or 100,000 rates
-abbrev pub Printable : Reading → Type 0
-Printable (Read f) = (f.records < 100) × (f.rates < 100000)
-Printable (Refused c) = Unit {0}
+abbrev pub Printable : Result Summary Cause → Type 0
+Printable (Ok f) = (f.records < 100) × (f.rates < 100000)
+Printable (Err c) = Unit {0}

@@ -1,11 +1,11 @@
 // The lister's line (01, Beside the unit): what it prints for a name, byte 0A and a body.
 #![tactic(auto)]
 
-ghost use Rattle.std.specs.Prelude.{◌≡◌, ◌+◌, ◌<◌, ◌≤◌, min, [], ◌∷◌, ◌++◌, length};
+ghost use Rattle.std.specs.Prelude.{◌≡◌, ◌+◌, ◌<◌, ◌≤◌, [], ◌∷◌, ◌++◌, length, Ok, Err};
 ghost use Rattle.rules.specs.Lister.{name_part, numeral, line};
-ghost use Rattle.listing.specs.Line.{room, line_in, put_in, puts, ok_text, refused_text, text_of, Printable};
+ghost use Rattle.listing.specs.Line.{room, line_in, put_in, puts, text_of, Printable};
 
-use rules::Reading;
+use rules::{Cause, Summary};
 
 // As many bytes as a line has room for.
 const ROOM: usize = 20;
@@ -21,7 +21,7 @@ const OK: [u8; ROOM] = *b"ok \0\0\0\0\0\0\0\0\0\0\0\0\0\0\0\0\0";
 
 const REFUSED: [u8; ROOM] = *b"refused \0\0\0\0\0\0\0\0\0\0\0\0";
 
-// A line: its bytes, then zeros, and its length.
+// A line: its bytes, then zeros, and its length: the memory is fixed, and there is no heap.
 #[derive(Clone, Copy)]
 pub struct Line {
     pub bytes: [u8; ROOM],
@@ -71,64 +71,48 @@ pub fn decimal(n: u64) -> Line
 }
 
 // `ok`, format, records and total rates.
-fn ok_line(format: u32, records: u32, rates: u32) -> Line
-    requires { (format < 1000) × (records < 100) × (rates < 100000) }
-    ensures { result ≡ line_in (ok_text format records rates) }
+fn ok_line(file: Summary) -> Line
+    requires { Printable (Ok file) }
+    ensures { result ≡ line_in (text_of (Ok file)) }
 {
     let start = Line {
         bytes: OK,
         length: 3,
     };
-    let with_format = field(start, format, b' ');
-    let with_records = field(with_format, records, b' ');
-    field(with_records, rates, NEW_LINE)
+    let with_format = field(start, u32::from(file.format), b' ');
+    let with_records = field(with_format, file.records, b' ');
+    field(with_records, file.rates, NEW_LINE)
 }
 
 // `refused` and the cause's number.
-fn refused_line(cause: u32) -> Line
-    requires { cause < 100 }
-    ensures { result ≡ line_in (refused_text cause) }
+fn refused_line(cause: Cause) -> Line
+    ensures { result ≡ line_in (text_of (Err cause)) }
 {
     let start = Line {
         bytes: REFUSED,
         length: 8,
     };
-    field(start, cause, NEW_LINE)
+    field(start, u32::from(cause), NEW_LINE)
 }
 
 // Where the name ends: the place of the first 0A, or the length where there is none.
 fn name_end(input: &[u8]) -> usize
     ensures { result ≡ length (name_part input.now) }
 {
-    let mut i = 0;
-    while i < input.len() {
-        if input[i] == NAME_END {
-            return i;
-        }
-        i += 1;
-    }
-    i
-}
-
-// Where the body begins: past the 0A, or at the end where there is none.
-fn body_start(end: usize, length: usize) -> usize
-    requires { end ≤ length }
-    ensures { result ≡ min (end + 1) length }
-{
-    if end < length { end + 1 } else { end }
+    input
+        .iter()
+        .position(|x| *x == NAME_END)
+        .unwrap_or(input.len())
 }
 
 // The line of what was read, or of the cause of its refusal.
-fn reading_line(reading: Reading) -> Line
+fn reading_line(reading: Result<Summary, Cause>) -> Line
     requires { Printable reading }
     ensures { result ≡ line_in (text_of reading) }
 {
     match reading {
-        Reading::Read(file) => {
-            let format = file.format;
-            ok_line(rules::format_number(format), file.records, file.rates)
-        }
-        Reading::Refused(cause) => refused_line(rules::cause_number(cause)),
+        Ok(file) => ok_line(file),
+        Err(cause) => refused_line(cause),
     }
 }
 
@@ -137,6 +121,7 @@ pub fn line_of(input: &[u8]) -> Line
     ensures { result ≡ line_in (line input.now) }
 {
     let end = name_end(input);
-    let start = body_start(end, input.len());
+    // Past the 0A, or at the end where there is none.
+    let start = (end + 1).min(input.len());
     reading_line(transfer::read(&input[..end], &input[start..]))
 }

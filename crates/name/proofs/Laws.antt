@@ -1,9 +1,9 @@
 -- Laws of names: what a name that keeps the form is made of, the segment's number, and the plant ID's digits.
+use Rattle.std.specs.Prelude.{Some, None, Option, is_some}
 use Prim.Native.Nat.{ℕ, ◌+◌, ◌/◌, ◌%◌, ◌≤◌, ◌<◌}
 use mathlib.Core.Path.{◌≡◌, refl, sym, ap}
 use mathlib.Core.Bool.{Bool, true, false, cond, ◌&&◌, ◌||◌, false≢true}
 use mathlib.Core.List.{List, [], ◌∷◌}
-use mathlib.Core.Option.{Option, none, some}
 use native.Mathlib.Omega.{arith}
 use lib.Dec.{leb, eqb}
 use lib.ListN.{length, length-map}
@@ -16,11 +16,8 @@ use Rattle.rules.specs.declared.Format.TheVariants.{F201, F202, F203, F301}
 use Rattle.laws.proofs.Tests.{both, no-some}
 use Rattle.laws.proofs.Bytes.{ascii-digits, part_length}
 use Rattle.laws.proofs.Facts.{name-shape, name-facts, of-digits}
-use Rattle.calendar.specs.Moments.{moment_of}
-use Rattle.calendar.specs.declared.dates.Moment.TheVariants.{At, Missing}
 use Rattle.name.specs.Read.{name_read, plant_digits, fits}
 use Rattle.name.specs.declared.Fields.{Fields}
-use Rattle.name.specs.declared.NameRead.TheVariants.{Named, Broken}
 
 -- ---- ASCII digits as values
 
@@ -96,7 +93,7 @@ module _ (s : List ℕ) (e : digits 4 s ≡ true) where
 
 -- ---- the form
 
-pub unshaped : (s : List ℕ) → name_shape s ≡ false → parse_name s ≡ none
+pub unshaped : (s : List ℕ) → name_shape s ≡ false → parse_name s ≡ None
 unfolding parse_name
 unshaped s e = rw e refl
 
@@ -133,11 +130,6 @@ module _ (s : List ℕ) (shape : name_shape s ≡ true) where
   unfolding parse_name
   parse_as e = rw (shape, e) refl
 
--- no other number is a format
-pub no-format : (n : ℕ) → (n ≡ 201 → ⊥) → (n ≡ 202 → ⊥) → (n ≡ 203 → ⊥) → (n ≡ 301 → ⊥) → format_of n ≡ none
-unfolding format_of
-no-format n a b c d = rw (ne_eqb n 201 a, ne_eqb n 202 b, ne_eqb n 203 c, ne_eqb n 301 d) refl
-
 -- ---- what a name that keeps the form has
 
 pub record Parsed (s : List ℕ) (n : Name) : Type 0 where
@@ -171,41 +163,41 @@ lawful-parsed s f shape e =
       date = w.date;
     }
 
-pub parsed : (s : List ℕ) (n : Name) → parse_name s ≡ some n → Parsed s n
+pub parsed : (s : List ℕ) (n : Name) → parse_name s ≡ Some n → Parsed s n
 unfolding parse_name
 parsed s n e = go (name_shape s) refl (format_of (value (from_ascii (part s 0 3)))) e
   where
-    lawful : (f : Format) (b : Bool) → name_shape s ≡ true → lawful_name (name_fields f s) ≡ b → cond b (some (name_fields f s)) none ≡ some n → Parsed s n
+    lawful : (f : Format) (b : Bool) → name_shape s ≡ true → lawful_name (name_fields f s) ≡ b → cond b (Some (name_fields f s)) None ≡ Some n → Parsed s n
     lawful f true shape l h = let e : name_fields f s ≡ n = cc in rw e at (lawful-parsed s f shape l)
     lawful f false shape l h = no-some h
 
-    go : (b : Bool) → name_shape s ≡ b → (o : Option Format) → cond b (name_with o s) none ≡ some n → Parsed s n
+    go : (b : Bool) → name_shape s ≡ b → (o : Option Format) → cond b (name_with o s) None ≡ Some n → Parsed s n
     go false shape o h = no-some h
-    go true shape none h = no-some h
-    go true shape (some f) h = lawful f (lawful_name (name_fields f s)) shape refl h
+    go true shape None h = no-some h
+    go true shape (Some f) h = lawful f (lawful_name (name_fields f s)) shape refl h
 
 -- ---- the plant ID's digits
 
-pub plant-is : (s : List ℕ) (n : Name) → parse_name s ≡ some n → plant_digits s ≡ n.plant
+pub plant-is : (s : List ℕ) (n : Name) → parse_name s ≡ Some n → plant_digits s ≡ n.plant
 unfolding plant_digits
 plant-is s n e = let t = parsed s n e in rw (eq-eqb (length s) 55 t.long) (sym t.plant)
 
 -- ---- the answer
 
-pub read-broken : (o : Option Name) → Broken ≡ name_read o → o ≡ none
-read-broken none e = refl
-read-broken (some n) e = let x : ◌≡◌ {A = ℕ} 0 1 = cc in absurd (omega arith)
+pub read-broken : (o : Option Name) → None ≡ name_read o → o ≡ None
+read-broken None e = refl
+read-broken (Some n) e = let x : ◌≡◌ {A = ℕ} 0 1 = cc in absurd (omega arith)
 
 -- what was read is the fields of a name
 pub record Read (o : Option Name) (f : Fields) : Type 0 where
   pub name : Name
-  pub found : o ≡ some name
+  pub found : o ≡ Some name
   pub format : f.format ≡ name.format
   pub segment : f.segment ≡ value name.segment
 
-pub read_named : (o : Option Name) (f : Fields) → Named f ≡ name_read o → Read o f
-read_named none f e = let x : ◌≡◌ {A = ℕ} 0 1 = cc in absurd (omega arith)
-read_named (some n) f e =
+pub read_named : (o : Option Name) (f : Fields) → Some f ≡ name_read o → Read o f
+read_named None f e = let x : ◌≡◌ {A = ℕ} 0 1 = cc in absurd (omega arith)
+read_named (Some n) f e =
     let same : f ≡ record { format = n.format; segment = value n.segment } = cc in
     record { name = n; found = refl; format = ap (λ (x : Fields). x.format) same; segment = ap (λ (x : Fields). x.segment) same }
 
@@ -239,18 +231,10 @@ segment-length s e =
 
 -- ---- the creation time
 
-pub date-there : (s : List ℕ) (t : ℕ) → At t ≡ moment_of (moment s) → (digits 14 s && exists s) ≡ true
+pub date-some : (s : List ℕ) → is_some (moment s) ≡ (digits 14 s && exists s)
 unfolding moment
-date-there s t e = go (digits 14 s && exists s) e
+date-some s = go (digits 14 s && exists s)
   where
-    go : (b : Bool) → At t ≡ moment_of (cond b (some (seconds_of s)) none) → b ≡ true
-    go true e = refl
-    go false e = let x : ◌≡◌ {A = ℕ} 0 1 = cc in absurd (omega arith)
-
-pub date-missing : (s : List ℕ) → Missing ≡ moment_of (moment s) → (digits 14 s && exists s) ≡ false
-unfolding moment
-date-missing s e = go (digits 14 s && exists s) e
-  where
-    go : (b : Bool) → Missing ≡ moment_of (cond b (some (seconds_of s)) none) → b ≡ false
-    go true e = let x : ◌≡◌ {A = ℕ} 0 1 = cc in absurd (omega arith)
-    go false e = refl
+    go : (b : Bool) → is_some (cond b (Some (seconds_of s)) None) ≡ b
+    go true = refl
+    go false = refl

@@ -1,17 +1,15 @@
 -- What the functions on names answer: the fields of a name that keeps the form, and the digits of its plant ID.
-use Rattle.std.specs.Prelude.{ℕ, ◌/◌, ◌%◌, Bool, cond, ◌&&◌, List, leb, eqb, length, replicate}
-use Rattle.std.proofs.Math.Option.{Option, none, some}
+use Rattle.name.specs.declared.Fields.{Fields}
+use Rattle.std.specs.Prelude.{ℕ, ◌/◌, ◌%◌, Bool, cond, ◌&&◌, List, leb, eqb, length, replicate, Some, None, Option}
 use Rattle.rules.specs.Digits.{part, value, from_ascii}
 use Rattle.rules.specs.Name.{Name, name_length}
 use Rattle.rules.specs.declared.Format.{Format}
 use Rattle.rules.specs.declared.Format.TheVariants.{F201, F202, F203, F301}
-use Rattle.name.specs.declared.NameRead.{NameRead}
-use Rattle.name.specs.declared.NameRead.TheVariants.{Named, Broken}
 
 -- the answer for what `parse_name` finds
-abbrev pub name_read : Option Name → NameRead
-name_read none = Broken
-name_read (some n) = Named (record { format = n.format; segment = value n.segment })
+abbrev pub name_read : Option Name → Option Fields
+name_read None = None
+name_read (Some n) = Some (record { format = n.format; segment = value n.segment })
 
 -- `segment_fits` on the number that four digits stand for
 abbrev pub fits : Format → ℕ → Bool

@@ -1,15 +1,12 @@
 // A file's name (01, Names and bodies): its format and segment, the digits of its plant ID, and whether it keeps the form.
 #![tactic(auto)]
 
-ghost use Rattle.std.specs.Prelude.{◌≡◌, true, ◌&&◌, ◌+◌, ◌-◌, ◌≤◌, length};
-ghost use Rattle.std.proofs.Math.Option.{some};
+ghost use Rattle.std.specs.Prelude.{◌≡◌, true, ◌&&◌, ◌+◌, ◌-◌, ◌≤◌, length, Some};
 ghost use Rattle.rules.specs.Digits.{part, digits, value, all_ascii, from_ascii, same_bytes};
 ghost use Rattle.rules.specs.Calendar.{exists};
 ghost use Rattle.rules.specs.Name.{parse_name, name_shape, name_with, any_segment};
 ghost use Rattle.name.specs.Read.{name_read, plant_digits, fits};
 
-use calendar::Moment;
-use digits::Decimal;
 use rules::Format;
 
 // 'A name has 55 ASCII bytes: format, _, segment of 4 digits, _, plant ID, _, creation time YYYYMMDDhhmmss, and the five
@@ -47,35 +44,19 @@ const UNDERSCORE: [u8; 1] = *b"_";
 const DOT_DATA: [u8; 5] = *b".data";
 
 // What a name says of its file; the segment's four digits as a number.
-#[derive(Clone, Copy)]
+#[derive(Clone, Copy, Debug, PartialEq, Eq)]
 pub struct Fields {
     pub format: Format,
     pub segment: u16,
 }
 
-// A name's fields; Broken where the bytes break the form (cause 7).
-#[derive(Clone, Copy)]
-pub enum NameRead {
-    Named(Fields),
-    Broken,
-}
-
-// The value of an ASCII digit; 0 of a byte below them.
-fn digit(x: u8) -> u8
-    ensures { result ≡ x - 48 }
-{
-    if x < b'0' { 0 } else { x - b'0' }
-}
-
-// Digits in ASCII as values.
+// Digits in ASCII as values; 0 of a byte below them.
 fn values(to: &mut [u8], ascii: &[u8])
     requires { length to.old ≡ length ascii.now }
     ensures { to.new ≡ from_ascii ascii.now }
 {
-    let mut i = 0;
-    while i < ascii.len() {
-        to[i] = digit(ascii[i]);
-        i += 1;
+    for (i, &x) in ascii.iter().enumerate() {
+        to[i] = x.saturating_sub(b'0');
     }
 }
 
@@ -85,8 +66,8 @@ fn number(ascii: &[u8]) -> u16
     ensures { result ≡ value (from_ascii ascii.now) }
 {
     match digits::ascii_number(ascii) {
-        Decimal::Number(n) => n as u16,
-        Decimal::Broken => 0,
+        Some(n) => n as u16,
+        None => 0,
     }
 }
 
@@ -143,39 +124,34 @@ fn is_date(ascii: &[u8]) -> bool
 {
     let mut created = [0u8; CREATED_LENGTH];
     values(&mut created, ascii);
-    match calendar::read_moment(&created) {
-        Moment::At(_) => true,
-        Moment::Missing => false,
-    }
+    calendar::read_moment(&created).is_some()
 }
 
 // The fields of bytes with a name's shape, of that format.
-fn read_as(format: Format, name: &[u8]) -> NameRead
+fn read_as(format: Format, name: &[u8]) -> Option<Fields>
     requires { name_shape name.now ≡ true }
-    ensures { result ≡ name_read (name_with (some format) name.now) }
+    ensures { result ≡ name_read (name_with (Some format) name.now) }
 {
     let segment = number(&name[SEGMENT..SEGMENT_END]);
     if fits(format, segment) & is_date(&name[CREATED..CREATED_END]) {
-        NameRead::Named(Fields { format, segment })
+        Some(Fields { format, segment })
     } else {
-        NameRead::Broken
+        None
     }
 }
 
-// The fields of a name, from any bytes.
-pub fn read_name(name: &[u8]) -> NameRead
+// The fields of a name, from any bytes; None where they break the form (cause 7).
+pub fn read_name(name: &[u8]) -> Option<Fields>
     ensures { result ≡ name_read (parse_name name.now) }
 {
     if !has_shape(name) {
-        return NameRead::Broken;
+        return None;
     }
-    match number(&name[FORMAT..FORMAT_END]) {
-        201 => read_as(Format::F201, name),
-        202 => read_as(Format::F202, name),
-        203 => read_as(Format::F203, name),
-        301 => read_as(Format::F301, name),
-        _ => NameRead::Broken,
-    }
+    let digits = number(&name[FORMAT..FORMAT_END]);
+    let Ok(format) = Format::try_from(digits as u32) else {
+        return None;
+    };
+    read_as(format, name)
 }
 
 // The digits of a name's plant ID, as values; zeros where the bytes are not as many as a name has.
@@ -202,6 +178,7 @@ pub fn is_segment(segment: &[u8]) -> bool
         return false;
     }
     let value = number(segment);
+    // Each by itself: `any` over an array of the formats is no shorter here, and its proof is longer.
     fits(Format::F201, value)
         | fits(Format::F202, value)
         | fits(Format::F203, value)

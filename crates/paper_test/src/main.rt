@@ -1,8 +1,7 @@
 // What 002 itself gives as examples, through the library: the messages of its table 6.4, the request of its 4.2 and the names of its 4.2 and 5.1.
 #![tactic(auto)]
 
-use name::NameRead;
-use rules::{Cause, ErrorCode, Reading, Written};
+use rules::Cause;
 
 // 5.1's name. Its plant is that of 3.2 (1), with the check digit.
 const NAME: [u8; 55] = *b"201_9990_12345678901234567890123455_20180505100520.data";
@@ -12,32 +11,24 @@ fn show(rt: &impl Print, text: &[u8]) {
     let _ = rt.write_all(text);
 }
 
-fn show_number(rt: &impl Print, n: u64) {
-    let _ = rt.print(n);
-}
-
 fn end_line(rt: &impl Print) {
     show(rt, b"\n");
 }
 
 fn show_refusal(rt: &impl Print, cause: Cause) {
-    show(rt, b"refused ");
-    show_number(rt, rules::cause_number(cause) as u64);
-    end_line(rt);
+    let number = u32::from(cause);
+    let _ = println!(rt; "refused {number}");
 }
 
 // An error file's code and text.
 fn show_error(rt: &impl Print, file: &[u8]) {
     match error_file::error_code(file) {
-        ErrorCode::Code(code) => {
-            show_number(rt, code as u64);
-            show(rt, b" ");
+        Ok(code) => {
+            let _ = print!(rt; "{code} ");
             show(rt, error_file::error_text(file));
             end_line(rt);
         }
-        ErrorCode::Refused(cause) => {
-            show_refusal(rt, cause);
-        }
+        Err(cause) => show_refusal(rt, cause),
     }
 }
 
@@ -117,35 +108,24 @@ fn show_request(rt: &impl Print, mac: &[u8], segment: &[u8]) {
     let plant = name::plant_digits(&NAME);
     let mut out = [0u8; 84];
     match request::request(&plant, mac, segment, &mut out) {
-        Written::Length(_) => {
+        Ok(_) => {
             show(rt, &out);
             end_line(rt);
         }
-        Written::Refused(cause) => {
-            show_refusal(rt, cause);
-        }
+        Err(cause) => show_refusal(rt, cause),
     }
 }
 
 // A name's format and segment, and why it is refused with an empty body: 9 where its ID has its check digit, else 8.
 fn show_name(rt: &impl Print, name: &[u8]) {
-    match name::read_name(name) {
-        NameRead::Named(fields) => {
-            let format = fields.format;
-            show_number(rt, rules::format_number(format) as u64);
-            show(rt, b" ");
-            show_number(rt, fields.segment as u64);
-            show(rt, b" ");
-        }
-        NameRead::Broken => {}
+    if let Some(fields) = name::read_name(name) {
+        let format = u32::from(fields.format);
+        let segment = fields.segment;
+        let _ = print!(rt; "{format} {segment} ");
     }
     match transfer::read(name, b"") {
-        Reading::Read(_) => {
-            end_line(rt);
-        }
-        Reading::Refused(cause) => {
-            show_refusal(rt, cause);
-        }
+        Ok(_) => end_line(rt),
+        Err(cause) => show_refusal(rt, cause),
     }
 }
 

@@ -1,13 +1,13 @@
 -- Laws of the plans: what each way through the tests decides, what a plan says of the fields, and that its records are the writer's output.
+use Rattle.std.specs.Prelude.{Some, None, Option, Result, Ok, Err}
 use Prim.Native.Nat.{ℕ, ◌+◌, ◌-◌, ◌≤◌}
 use mathlib.Core.Path.{◌≡◌, ◌∙◌, refl, sym, ap}
 use mathlib.Core.Bool.{Bool, true, false, cond, ◌&&◌, ◌||◌, and_assoc, and-true, false≢true}
 use mathlib.Core.List.{List, []}
-use mathlib.Core.Option.{Option, none, some}
 use native.Mathlib.Omega.{arith}
 use lib.Dec.{leb, eqb}
 use lib.ListN.{length}
-use borrow.Author.Tests.{leb-true, eqb-true, eq-eqb, ne_eqb}
+use borrow.Author.Tests.{leb-true, eqb-true}
 use Rattle.rules.specs.Digits.{digits, all_at_most}
 use Rattle.rules.specs.Calendar.{month_at, first_slot, exists, whole_minute, month_count}
 use Rattle.rules.specs.Plant.{plant_id}
@@ -22,7 +22,6 @@ use Rattle.rules.specs.declared.Format.TheVariants.{F201, F202, F203, F301}
 use Rattle.laws.proofs.Tests.{both}
 use Rattle.digits.proofs.Parts.{digits-length}
 use Rattle.calendar.specs.Moments.{month_begun}
-use Rattle.calendar.specs.declared.dates.Begun.TheVariants.{Month, Nothing}
 use Rattle.calendar.proofs.Begins.{begun-facts, begun-none}
 use Rattle.calendar.proofs.Laws.{first-slot-monotone}
 use Rattle.layout.specs.Dates.{update_holds}
@@ -30,7 +29,7 @@ use Rattle.plan.specs.Fields.{fields_of}
 use Rattle.plan.specs.Plan.{months_plan, update_dated, update_plan, plan_as, plan_of, output_of}
 use Rattle.plan.specs.Given.{UpdateGiven, MonthsGiven}
 use Rattle.plan.specs.declared.Plan.{Plan}
-use Rattle.plan.specs.declared.Plan.TheVariants.{Months, Update, Refused}
+use Rattle.plan.specs.declared.Plan.TheVariants.{Months, Update}
 
 -- ---- a 201's or 202's plan, at each return
 
@@ -49,7 +48,7 @@ module _ (k : ℕ) (ident start rates : List ℕ) where
       let m = month_at start in
       and_assoc (exists (whole_minute start) && month_begins start) (leb (m + k) month_count) (eqb (length rates) (first_slot (m + k) - first_slot m))
 
-  pub months-form : (digits 10 ident && digits 12 start) ≡ false → Refused Cause.Form ≡ months_plan k ident start rates
+  pub months-form : (digits 10 ident && digits 12 start) ≡ false → Err Cause.Form ≡ months_plan k ident start rates
   unfolding months_plan
   months-form e = rw e refl
 
@@ -57,26 +56,26 @@ module _ (k : ℕ) (ident start rates : List ℕ) where
     dated : digits 12 start ≡ true
     dated = (both (digits 10 ident) (digits 12 start) d).1
 
-    pub months-unbegun : Nothing ≡ month_begun start → Refused Cause.Date ≡ months_plan k ident start rates
+    pub months-unbegun : None ≡ month_begun start → Err Cause.Date ≡ months_plan k ident start rates
     unfolding months_plan
     months-unbegun e =
-        let none : (exists (whole_minute start) && month_begins start) ≡ false = rw dated at (begun-none start e) in
-        rw (d, months-fit, none) refl
+        let unbegun : (exists (whole_minute start) && month_begins start) ≡ false = rw dated at (begun-none start e) in
+        rw (d, months-fit, unbegun) refl
 
-    module _ (m : ℕ) (b : Month m ≡ month_begun start) where
+    module _ (m : ℕ) (b : Some m ≡ month_begun start) where
       fit_is : months_fit k date_fields ≡ length_fits m
       fit_is = let f = begun-facts start m b in months-fit ∙ rw (f.there, f.first, ← f.month) refl
 
-      pub months-length : length_fits m ≡ false → Refused Cause.Date ≡ months_plan k ident start rates
+      pub months-length : length_fits m ≡ false → Err Cause.Date ≡ months_plan k ident start rates
       unfolding months_plan
       months-length e = rw (d, fit_is, e) refl
 
       module _ (f : length_fits m ≡ true) where
-        pub months-rate : all_at_most highest_rate rates ≡ false → Refused Cause.Rate ≡ months_plan k ident start rates
+        pub months-rate : all_at_most highest_rate rates ≡ false → Err Cause.Rate ≡ months_plan k ident start rates
         unfolding months_plan
         months-rate e = rw (d, fit_is, f, e) refl
 
-        pub months-plan : all_at_most highest_rate rates ≡ true → Months m (m + k) ≡ months_plan k ident start rates
+        pub months-plan : all_at_most highest_rate rates ≡ true → Ok (Months m (m + k)) ≡ months_plan k ident start rates
         unfolding months_plan
         months-plan e = rw (d, fit_is, f, e, (begun-facts start m b).month) refl
 
@@ -86,7 +85,7 @@ module _ (ident start next rates : List ℕ) where
   abbrev pub form_fits : Bool
   form_fits = digits 10 ident && digits 12 start && (digits 14 next && leb (length rates) 336)
 
-  pub update-form : form_fits ≡ false → Refused Cause.Form ≡ update_plan ident start next rates
+  pub update-form : form_fits ≡ false → Err Cause.Form ≡ update_plan ident start next rates
   unfolding update_plan
   update-form e = rw e refl
 
@@ -101,28 +100,28 @@ module _ (ident start next rates : List ℕ) where
     unfolding update_holds
     dated_is = rw after.0 refl
 
-    pub update-date : update_holds start (length rates) next ≡ false → Refused Cause.Date ≡ update_plan ident start next rates
+    pub update-date : update_holds start (length rates) next ≡ false → Err Cause.Date ≡ update_plan ident start next rates
     unfolding update_plan
     update-date e = rw (d, dated_is, e) refl
 
     module _ (f : update_holds start (length rates) next ≡ true) where
-      pub update-rate : all_at_most highest_rate rates ≡ false → Refused Cause.Rate ≡ update_plan ident start next rates
+      pub update-rate : all_at_most highest_rate rates ≡ false → Err Cause.Rate ≡ update_plan ident start next rates
       unfolding update_plan
       update-rate e = rw (d, dated_is, f, e) refl
 
-      pub update-plan : all_at_most highest_rate rates ≡ true → Update ≡ update_plan ident start next rates
+      pub update-plan : all_at_most highest_rate rates ≡ true → Ok Update ≡ update_plan ident start next rates
       unfolding update_plan
       update-plan e = rw (d, dated_is, f, e) refl
 
 -- ---- the plan of the fields, at each return
 
 module _ (w : Fields) where
-  pub plan_id : plant_id w.plant ≡ false → Refused Cause.PlantId ≡ plan_of w
+  pub plan_id : plant_id w.plant ≡ false → Err Cause.PlantId ≡ plan_of w
   unfolding plan_of
   plan_id e = rw e refl
 
   module _ (p : plant_id w.plant ≡ true) where
-    pub plan-flag : flag_fits w ≡ false → Refused Cause.Range ≡ plan_of w
+    pub plan-flag : flag_fits w ≡ false → Err Cause.Range ≡ plan_of w
     unfolding plan_of
     plan-flag e = rw (p, e) refl
 
@@ -131,83 +130,62 @@ module _ (w : Fields) where
       unfolding plan_of
       plan_is = rw (p, f) refl
 
-      pub plan_yearly : w.format ≡ 201 → months_plan 13 w.schedule w.start w.rates ≡ plan_of w
-      unfolding format_of
-      plan_yearly e = sym (plan_is ∙ rw (eq-eqb w.format 201 e) refl)
-
-      module _ (n₁ : w.format ≡ 201 → ⊥) where
-        pub plan_monthly : w.format ≡ 202 → months_plan 1 w.schedule w.start w.rates ≡ plan_of w
-        unfolding format_of
-        plan_monthly e = sym (plan_is ∙ rw (ne_eqb w.format 201 n₁, eq-eqb w.format 202 e) refl)
-
-        module _ (n₂ : w.format ≡ 202 → ⊥) where
-          pub plan_updating : w.format ≡ 203 → update_plan w.schedule w.start w.next w.rates ≡ plan_of w
-          unfolding format_of
-          plan_updating e = sym (plan_is ∙ rw (ne_eqb w.format 201 n₁, ne_eqb w.format 202 n₂, eq-eqb w.format 203 e) refl)
-
-          pub plan-name : (w.format ≡ 203 → ⊥) → Refused Cause.Name ≡ plan_of w
-          unfolding format_of
-          plan-name n₃ =
-              sym (plan_is ∙ rw (ne_eqb w.format 201 n₁, ne_eqb w.format 202 n₂, ne_eqb w.format 203 n₃) (go (eqb w.format 301)))
-            where
-              go : (b : Bool) → plan_as w (cond b (some F301) none) ≡ Refused Cause.Name
-              go true = refl
-              go false = refl
+      pub plan_format : {o : Option Format} → format_of w.format ≡ o → plan_as w o ≡ plan_of w
+      plan_format e = sym (plan_is ∙ ap (plan_as w) e)
 
 -- ---- what a plan says of the fields
 
 -- whether a plan has records
-abbrev kept : Plan → Bool
-kept (Months first end) = true
-kept Update = true
-kept (Refused c) = false
+abbrev kept : Result Plan Cause → Bool
+kept (Ok p) = true
+kept (Err c) = false
 
 -- such a plan passed each test
-passed : (b : Bool) (c : Cause) (p q : Plan) → kept q ≡ true → need b (Refused c) p ≡ q → (b ≡ true) × (p ≡ q)
+passed : (b : Bool) (c : Cause) (p q : Result Plan Cause) → kept q ≡ true → need b (Err c) p ≡ q → (b ≡ true) × (p ≡ q)
 passed true c p q a e = (refl, e)
 passed false c p q a e = absurd (false≢true (ap kept e ∙ a))
 
 -- three tests one after the other
-three-passed : (a b d : Bool) (c₁ c₂ c₃ : Cause) (p q : Plan) → kept q ≡ true → need a (Refused c₁) (need b (Refused c₂) (need d (Refused c₃) p)) ≡ q
+three-passed : (a b d : Bool) (c₁ c₂ c₃ : Cause) (p q : Result Plan Cause) → kept q ≡ true → need a (Err c₁) (need b (Err c₂) (need d (Err c₃) p)) ≡ q
     → (a ≡ true) × (b ≡ true) × (p ≡ q)
 three-passed a b d c₁ c₂ c₃ p q h e =
-    let p₁ = passed a c₁ (need b (Refused c₂) (need d (Refused c₃) p)) q h e in
-    let p₂ = passed b c₂ (need d (Refused c₃) p) q h p₁.1 in
+    let p₁ = passed a c₁ (need b (Err c₂) (need d (Err c₃) p)) q h e in
+    let p₂ = passed b c₂ (need d (Err c₃) p) q h p₁.1 in
     (p₁.0, p₂.0, (passed d c₃ p q h p₂.1).1)
 
-months-passed : (k : ℕ) (ident start rates : List ℕ) (q : Plan) → kept q ≡ true → months_plan k ident start rates ≡ q
-    → ((digits 10 ident && digits 12 start) ≡ true) × (months_fit k (date_fields k ident start rates) ≡ true) × (Months (month_at start) (month_at start + k) ≡ q)
+months-passed : (k : ℕ) (ident start rates : List ℕ) (q : Result Plan Cause) → kept q ≡ true → months_plan k ident start rates ≡ q
+    → ((digits 10 ident && digits 12 start) ≡ true) × (months_fit k (date_fields k ident start rates) ≡ true) × (Ok (Months (month_at start) (month_at start + k)) ≡ q)
 unfolding months_plan
 months-passed k ident start rates q h e =
     let m = month_at start in
     three-passed (digits 10 ident && digits 12 start) (months_fit k (date_fields k ident start rates)) (all_at_most highest_rate rates)
-    Cause.Form Cause.Date Cause.Rate (Months m (m + k)) q h e
+    Cause.Form Cause.Date Cause.Rate (Ok (Months m (m + k))) q h e
 
-update-passed : (ident start next rates : List ℕ) (q : Plan) → kept q ≡ true → update_plan ident start next rates ≡ q
-    → (form_fits ident start next rates ≡ true) × (update_dated start next (length rates) ≡ true) × (Update ≡ q)
+update-passed : (ident start next rates : List ℕ) (q : Result Plan Cause) → kept q ≡ true → update_plan ident start next rates ≡ q
+    → (form_fits ident start next rates ≡ true) × (update_dated start next (length rates) ≡ true) × (Ok Update ≡ q)
 unfolding update_plan
 update-passed ident start next rates q h e =
     three-passed (form_fits ident start next rates) (update_dated start next (length rates)) (all_at_most highest_rate rates)
-    Cause.Form Cause.Date Cause.Rate Update q h e
+    Cause.Form Cause.Date Cause.Rate (Ok Update) q h e
 
 plant-length : (id : List ℕ) → plant_id id ≡ true → length id ≡ 26
 unfolding plant_id
 plant-length id e = digits-length 26 id (both _ _ e).0
 
-months-facts : (k : ℕ) (ident start rates : List ℕ) (plant : List ℕ) (first end : ℕ) → k ≤ 13 → length plant ≡ 26
-    → months_plan k ident start rates ≡ Months first end → MonthsGiven ident plant first end rates
-months-facts k ident start rates plant first end few long e =
-    let p = months-passed k ident start rates (Months first end) refl e in
-    let m = month_at start in
-    let fit = (both (exists (whole_minute start) && month_begins start) (length_fits k ident start rates m) (sym (months-fit k ident start rates) ∙ p.1)).1 in
-    let tests = both (leb (m + k) month_count) (eqb (length rates) (first_slot (m + k) - first_slot m)) fit in
+months-facts : (k : ℕ) (w : Fields) (first end : ℕ) → k ≤ 13 → length w.plant ≡ 26
+    → months_plan k w.schedule w.start w.rates ≡ Ok (Months first end) → MonthsGiven w first end
+months-facts k w first end few long e =
+    let p = months-passed k w.schedule w.start w.rates (Ok (Months first end)) refl e in
+    let m = month_at w.start in
+    let fit = (both (exists (whole_minute w.start) && month_begins w.start) (length_fits k w.schedule w.start w.rates m) (sym (months-fit k w.schedule w.start w.rates) ∙ p.1)).1 in
+    let tests = both (leb (m + k) month_count) (eqb (length w.rates) (first_slot (m + k) - first_slot m)) fit in
     let last = leb-true (m + k) month_count tests.0 in
-    let slots = eqb-true (length rates) (first_slot (m + k) - first_slot m) tests.1 in
+    let slots = eqb-true (length w.rates) (first_slot (m + k) - first_slot m) tests.1 in
     let rises = first-slot-monotone m (m + k) (omega arith) in
     let first-is : first ≡ m = cc p.2 in
     let end_is : end ≡ m + k = cc p.2 in
     record {
-      schedule-long = digits-length 10 ident (both (digits 10 ident) (digits 12 start) p.0).0;
+      schedule-long = digits-length 10 w.schedule (both (digits 10 w.schedule) (digits 12 w.start) p.0).0;
       plant-long = long;
       order = omega arith;
       last = omega arith;
@@ -215,53 +193,54 @@ months-facts k ident start rates plant first end few long e =
       full = rw (first-is, end_is) (omega arith);
     }
 
-update-facts : (ident start next rates plant : List ℕ) → length plant ≡ 26
-    → update_plan ident start next rates ≡ Update → UpdateGiven ident plant start next rates
-update-facts ident start next rates plant long e =
-    let p = update-passed ident start next rates Update refl e in
-    let form = both (digits 10 ident && digits 12 start) (digits 14 next && leb (length rates) 336) p.0 in
-    let ids = both (digits 10 ident) (digits 12 start) form.0 in
-    let after = both (digits 14 next) (leb (length rates) 336) form.1 in
+update-facts : (w : Fields) → w.flag ≤ 9 → length w.plant ≡ 26
+    → update_plan w.schedule w.start w.next w.rates ≡ Ok Update → UpdateGiven w
+update-facts w digit long e =
+    let p = update-passed w.schedule w.start w.next w.rates (Ok Update) refl e in
+    let form = both (digits 10 w.schedule && digits 12 w.start) (digits 14 w.next && leb (length w.rates) 336) p.0 in
+    let ids = both (digits 10 w.schedule) (digits 12 w.start) form.0 in
+    let after = both (digits 14 w.next) (leb (length w.rates) 336) form.1 in
     record {
-      schedule-long = digits-length 10 ident ids.0;
+      schedule-long = digits-length 10 w.schedule ids.0;
       plant-long = long;
-      start-long = digits-length 12 start ids.1;
-      next-long = digits-length 14 next after.0;
-      few = leb-true (length rates) 336 after.1;
+      start-long = digits-length 12 w.start ids.1;
+      next-long = digits-length 14 w.next after.0;
+      few = leb-true (length w.rates) 336 after.1;
+      digit = digit;
     }
 
 -- the one kind of plan is not the other
-months-no-update : (k : ℕ) (ident start rates : List ℕ) → months_plan k ident start rates ≡ Update → ⊥
+months-no-update : (k : ℕ) (ident start rates : List ℕ) → months_plan k ident start rates ≡ Ok Update → ⊥
 months-no-update k ident start rates e =
-    let p = months-passed k ident start rates Update refl e in
+    let p = months-passed k ident start rates (Ok Update) refl e in
     let z : ◌≡◌ {A = ℕ} 0 1 = cc p.2 in
     omega arith
 
-update-no-months : (ident start next rates : List ℕ) (first end : ℕ) → update_plan ident start next rates ≡ Months first end → ⊥
+update-no-months : (ident start next rates : List ℕ) (first end : ℕ) → update_plan ident start next rates ≡ Ok (Months first end) → ⊥
 update-no-months ident start next rates first end e =
-    let p = update-passed ident start next rates (Months first end) refl e in
+    let p = update-passed ident start next rates (Ok (Months first end)) refl e in
     let z : ◌≡◌ {A = ℕ} 0 1 = cc p.2 in
     omega arith
 
 module _ (w : Fields) where
-  months-as : (o : Option Format) (first end : ℕ) → length w.plant ≡ 26 → plan_as w o ≡ Months first end
-      → MonthsGiven w.schedule w.plant first end w.rates
-  months-as none first end long e = let z : ◌≡◌ {A = ℕ} 0 1 = cc in absurd (omega arith)
-  months-as (some F201) first end long e = months-facts 13 w.schedule w.start w.rates w.plant first end (omega arith) long e
-  months-as (some F202) first end long e = months-facts 1 w.schedule w.start w.rates w.plant first end (omega arith) long e
-  months-as (some F203) first end long e = absurd (update-no-months w.schedule w.start w.next w.rates first end e)
-  months-as (some F301) first end long e = let z : ◌≡◌ {A = ℕ} 0 1 = cc in absurd (omega arith)
+  months-as : (o : Option Format) (first end : ℕ) → length w.plant ≡ 26 → plan_as w o ≡ Ok (Months first end)
+      → MonthsGiven w first end
+  months-as None first end long e = let z : ◌≡◌ {A = ℕ} 0 1 = cc in absurd (omega arith)
+  months-as (Some F201) first end long e = months-facts 13 w first end (omega arith) long e
+  months-as (Some F202) first end long e = months-facts 1 w first end (omega arith) long e
+  months-as (Some F203) first end long e = absurd (update-no-months w.schedule w.start w.next w.rates first end e)
+  months-as (Some F301) first end long e = let z : ◌≡◌ {A = ℕ} 0 1 = cc in absurd (omega arith)
 
-  update-as : (o : Option Format) → length w.plant ≡ 26 → plan_as w o ≡ Update → UpdateGiven w.schedule w.plant w.start w.next w.rates
-  update-as none long e = let z : ◌≡◌ {A = ℕ} 0 1 = cc in absurd (omega arith)
-  update-as (some F201) long e = absurd (months-no-update 13 w.schedule w.start w.rates e)
-  update-as (some F202) long e = absurd (months-no-update 1 w.schedule w.start w.rates e)
-  update-as (some F203) long e = update-facts w.schedule w.start w.next w.rates w.plant long e
-  update-as (some F301) long e = let z : ◌≡◌ {A = ℕ} 0 1 = cc in absurd (omega arith)
+  update-as : (o : Option Format) → w.flag ≤ 9 → length w.plant ≡ 26 → plan_as w o ≡ Ok Update → UpdateGiven w
+  update-as None digit long e = let z : ◌≡◌ {A = ℕ} 0 1 = cc in absurd (omega arith)
+  update-as (Some F201) digit long e = absurd (months-no-update 13 w.schedule w.start w.rates e)
+  update-as (Some F202) digit long e = absurd (months-no-update 1 w.schedule w.start w.rates e)
+  update-as (Some F203) digit long e = update-facts w digit long e
+  update-as (Some F301) digit long e = let z : ◌≡◌ {A = ℕ} 0 1 = cc in absurd (omega arith)
 
   -- an update's flag was looked at
   flag-as : (yearly monthly : Bool) (o : Option Format) → (leb w.flag 9 || yearly || monthly) ≡ true
-      → plan_as w (cond yearly (some F201) (cond monthly (some F202) o)) ≡ Update → leb w.flag 9 ≡ true
+      → plan_as w (cond yearly (Some F201) (cond monthly (Some F202) o)) ≡ Ok Update → leb w.flag 9 ≡ true
   flag-as true monthly o t e = absurd (months-no-update 13 w.schedule w.start w.rates e)
   flag-as false true o t e = absurd (months-no-update 1 w.schedule w.start w.rates e)
   flag-as false false o t e = go (leb w.flag 9) t
@@ -270,43 +249,43 @@ module _ (w : Fields) where
       go true t = refl
       go false t = t
 
-  plan-passed : (q : Plan) → kept q ≡ true → plan_of w ≡ q → (plant_id w.plant ≡ true) × (flag_fits w ≡ true) × (plan_as w (format_of w.format) ≡ q)
+  plan-passed : (q : Result Plan Cause) → kept q ≡ true → plan_of w ≡ q → (plant_id w.plant ≡ true) × (flag_fits w ≡ true) × (plan_as w (format_of w.format) ≡ q)
   unfolding plan_of
   plan-passed q h e =
       let o = plan_as w (format_of w.format) in
-      let p₁ = passed (plant_id w.plant) Cause.PlantId (need (flag_fits w) (Refused Cause.Range) o) q h e in
+      let p₁ = passed (plant_id w.plant) Cause.PlantId (need (flag_fits w) (Err Cause.Range) o) q h e in
       let p₂ = passed (flag_fits w) Cause.Range o q h p₁.1 in
       (p₁.0, p₂.0, p₂.1)
 
-  pub plan-months : (first end : ℕ) → plan_of w ≡ Months first end → MonthsGiven w.schedule w.plant first end w.rates
+  pub plan-months : (first end : ℕ) → plan_of w ≡ Ok (Months first end) → MonthsGiven w first end
   plan-months first end e =
-      let p = plan-passed (Months first end) refl e in
+      let p = plan-passed (Ok (Months first end)) refl e in
       months-as (format_of w.format) first end (plant-length w.plant p.0) p.2
 
-  pub plan-update : plan_of w ≡ Update → UpdateGiven w.schedule w.plant w.start w.next w.rates
-  plan-update e =
-      let p = plan-passed Update refl e in
-      update-as (format_of w.format) (plant-length w.plant p.0) p.2
-
-  pub plan-digit : plan_of w ≡ Update → w.flag ≤ 9
+  plan-digit : plan_of w ≡ Ok Update → w.flag ≤ 9
   unfolding format_of
   plan-digit e =
-      let p = plan-passed Update refl e in
+      let p = plan-passed (Ok Update) refl e in
       let n = w.format in
-      let others = cond (eqb n 203) (some F203) (cond (eqb n 301) (some F301) none) in
+      let others = cond (eqb n 203) (Some F203) (cond (eqb n 301) (Some F301) None) in
       leb-true w.flag 9 (flag-as (eqb n 201) (eqb n 202) others p.1 p.2)
+
+  pub plan-update : plan_of w ≡ Ok Update → UpdateGiven w
+  plan-update e =
+      let p = plan-passed (Ok Update) refl e in
+      update-as (format_of w.format) (plan-digit e) (plant-length w.plant p.0) p.2
 
   -- ---- the output
 
   module _ (room : ℕ) where
-    one-need : (b : Bool) (c : Cause) (p : Plan) → need b (refuse c) (output_of w room p) ≡ output_of w room (need b (Refused c) p)
+    one-need : (b : Bool) (c : Cause) (p : Result Plan Cause) → need b (refuse c) (output_of w room p) ≡ output_of w room (need b (Err c) p)
     one-need true c p = refl
     one-need false c p = refl
 
-    three_needs : (a b d : Bool) (c₁ c₂ c₃ : Cause) (p : Plan)
+    three_needs : (a b d : Bool) (c₁ c₂ c₃ : Cause) (p : Result Plan Cause)
         → need a (refuse c₁) (need b (refuse c₂) (need d (refuse c₃) (output_of w room p)))
-        ≡ output_of w room (need a (Refused c₁) (need b (Refused c₂) (need d (Refused c₃) p)))
-    three_needs a b d c₁ c₂ c₃ p = rw (one-need d c₃ p, one-need b c₂ (need d (Refused c₃) p)) (one-need a c₁ (need b (Refused c₂) (need d (Refused c₃) p)))
+        ≡ output_of w room (need a (Err c₁) (need b (Err c₂) (need d (Err c₃) p)))
+    three_needs a b d c₁ c₂ c₃ p = rw (one-need d c₃ p, one-need b c₂ (need d (Err c₃) p)) (one-need a c₁ (need b (Err c₂) (need d (Err c₃) p)))
 
     -- a 201 or 202
     months-output : (k : ℕ)
@@ -320,22 +299,22 @@ module _ (w : Fields) where
         let m = month_at w.start in
         let form = digits 10 w.schedule && digits 12 w.start in
         let k-is : m + k - m ≡ k = omega arith in
-        sym (sym (three_needs form (months_fit k w) (all_at_most highest_rate w.rates) Cause.Form Cause.Date Cause.Rate (Months m (m + k)))
+        sym (sym (three_needs form (months_fit k w) (all_at_most highest_rate w.rates) Cause.Form Cause.Date Cause.Rate (Ok (Months m (m + k))))
         ∙ rw (k-is, and-true form) refl)
 
     output_as : (o : Option Format) → write_as room w o ≡ output_of w room (plan_as w o)
     unfolding update_plan digits_fit update_dates update_record field_records
-    output_as none = refl
-    output_as (some F201) = months-output 13
-    output_as (some F202) = months-output 1
-    output_as (some F203) =
+    output_as None = refl
+    output_as (Some F201) = months-output 13
+    output_as (Some F202) = months-output 1
+    output_as (Some F203) =
         let dates = update_dated w.start w.next (length w.rates) in
-        three_needs (form_fits w.schedule w.start w.next w.rates) dates (all_at_most highest_rate w.rates) Cause.Form Cause.Date Cause.Rate Update
-    output_as (some F301) = refl
+        three_needs (form_fits w.schedule w.start w.next w.rates) dates (all_at_most highest_rate w.rates) Cause.Form Cause.Date Cause.Rate (Ok Update)
+    output_as (Some F301) = refl
 
     pub output_is : write_body w room ≡ output_of w room (plan_of w)
     unfolding write_body plan_of
     output_is =
         let o = format_of w.format in
         let p = plan_as w o in
-        rw (output_as o, one-need (flag_fits w) Cause.Range p) (one-need (plant_id w.plant) Cause.PlantId (need (flag_fits w) (Refused Cause.Range) p))
+        rw (output_as o, one-need (flag_fits w) Cause.Range p) (one-need (plant_id w.plant) Cause.PlantId (need (flag_fits w) (Err Cause.Range) p))

@@ -3,29 +3,37 @@
 
 ghost use Rattle.std.specs.Prelude.{◌≡◌, ◌≤◌};
 ghost use Rattle.rules.specs.Digits.{digits};
-ghost use Rattle.plan.specs.Fields.{fields_of};
+ghost use Rattle.plan.specs.Fields.{given};
 ghost use Rattle.plan.specs.Plan.{months_plan, update_plan, plan_of};
 
-use calendar::Begun;
-use layout::{SCHEDULE_DIGITS, START_DIGITS};
+use layout::{SCHEDULE_DIGITS, START_DIGITS, record_count};
 use rules::{Cause, Format, HIGHEST_RATE, MONTH_COUNT};
 
-// The formats of a schedule's body.
+// 'For 201 and 202 flag and next access are not looked at' (01, Beside the unit).
 const YEARLY: u32 = 201;
 
 const MONTHLY: u32 = 202;
 
-const UPDATE: u32 = 203;
-
 // Cause 6: 'writer's flag above 9'.
 const HIGHEST_FLAG: u32 = 9;
 
-// The records of a body: those of the months from `first` to before `end`, or an update's.
+// What a body is written from (01, Beside the unit): as the caller gives it, not looked at yet.
 #[derive(Clone, Copy)]
+pub struct Fields<'a> {
+    pub format: u32,
+    pub plant: &'a [u8],
+    pub schedule: &'a [u8],
+    pub start: &'a [u8],
+    pub next: &'a [u8],
+    pub rates: &'a [u8],
+    pub flag: u32,
+}
+
+// The records of a body: those of the months from `first` to before `end`, or an update's.
+#[derive(Clone, Copy, Debug, PartialEq, Eq)]
 pub enum Plan {
     Months { first: u16, end: u16 },
     Update,
-    Refused(Cause),
 }
 
 // Whether `s` is `count` digits.
@@ -36,81 +44,64 @@ fn is_digits(s: &[u8], count: usize) -> bool
 }
 
 // A 201's or 202's plan, of `count` months.
-fn plan_months(count: u16, schedule: &[u8], start: &[u8], rates: &[u8]) -> Plan
+fn plan_months(count: u16, fields: Fields) -> Result<Plan, Cause>
     requires { count ≤ 13 }
-    ensures { result ≡ months_plan count schedule.now start.now rates.now }
+    ensures { result ≡ months_plan count fields.entry.schedule.now fields.entry.start.now fields.entry.rates.now }
 {
-    if !(is_digits(schedule, SCHEDULE_DIGITS) & is_digits(start, START_DIGITS)) {
-        return Plan::Refused(Cause::Form);
+    if !(is_digits(fields.schedule, SCHEDULE_DIGITS) & is_digits(fields.start, START_DIGITS)) {
+        return Err(Cause::Form);
     }
-    let Begun::Month(first) = calendar::month_begun(start) else {
-        return Plan::Refused(Cause::Date);
+    let Some(first) = calendar::month_begun(fields.start) else {
+        return Err(Cause::Date);
     };
     let end = first + count;
     let slots = calendar::first_slot(end) - calendar::first_slot(first);
-    if !((end <= MONTH_COUNT) & (rates.len() == slots as usize)) {
-        return Plan::Refused(Cause::Date);
+    if !((end <= MONTH_COUNT) & (fields.rates.len() == slots as usize)) {
+        return Err(Cause::Date);
     }
-    if !digits::all_at_most(rates, HIGHEST_RATE) {
-        return Plan::Refused(Cause::Rate);
+    if !digits::all_at_most(fields.rates, HIGHEST_RATE) {
+        return Err(Cause::Rate);
     }
-    Plan::Months { first, end }
+    Ok(Plan::Months { first, end })
 }
 
 // A 203's plan.
-fn plan_update(schedule: &[u8], start: &[u8], next: &[u8], rates: &[u8]) -> Plan
-    ensures { result ≡ update_plan schedule.now start.now next.now rates.now }
+fn plan_update(fields: Fields) -> Result<Plan, Cause>
+    ensures { result ≡ update_plan fields.entry.schedule.now fields.entry.start.now fields.entry.next.now fields.entry.rates.now }
 {
     let most = layout::most_rates(Format::F203) as usize;
-    let few = is_digits(next, layout::NEXT_DIGITS) & (rates.len() <= most);
-    if !(is_digits(schedule, SCHEDULE_DIGITS) & is_digits(start, START_DIGITS) & few) {
-        return Plan::Refused(Cause::Form);
+    let few = is_digits(fields.next, layout::NEXT_DIGITS) & (fields.rates.len() <= most);
+    if !(is_digits(fields.schedule, SCHEDULE_DIGITS)
+        & is_digits(fields.start, START_DIGITS)
+        & few)
+    {
+        return Err(Cause::Form);
     }
-    if !layout::is_update(start, rates.len() as u32, next) {
-        return Plan::Refused(Cause::Date);
+    if !layout::is_update(fields.start, fields.rates.len() as u32, fields.next) {
+        return Err(Cause::Date);
     }
-    if !digits::all_at_most(rates, HIGHEST_RATE) {
-        return Plan::Refused(Cause::Rate);
+    if !digits::all_at_most(fields.rates, HIGHEST_RATE) {
+        return Err(Cause::Rate);
     }
-    Plan::Update
+    Ok(Plan::Update)
 }
 
 // The plan of a body's fields: causes 1, 6, 7, 9, 10 and 11, in that order.
-pub fn decide(
-    format: u32,
-    plant: &[u8],
-    schedule: &[u8],
-    start: &[u8],
-    next: &[u8],
-    rates: &[u8],
-    flag: u32,
-) -> Plan
-    ensures { result ≡ plan_of (fields_of format plant.now schedule.now start.now next.now rates.now flag) }
+pub fn decide(fields: Fields) -> Result<Plan, Cause>
+    ensures { result ≡ plan_of (given fields.entry) }
 {
-    if !plant::is_plant_id(plant) {
-        return Plan::Refused(Cause::PlantId);
+    let Fields { format, flag, .. } = fields;
+    if !plant::is_plant_id(fields.plant) {
+        return Err(Cause::PlantId);
     }
     if !((flag <= HIGHEST_FLAG) | (format == YEARLY) | (format == MONTHLY)) {
-        return Plan::Refused(Cause::Range);
+        return Err(Cause::Range);
     }
-    if format == YEARLY {
-        return plan_months(
-            layout::record_count(Format::F201) as u16,
-            schedule,
-            start,
-            rates,
-        );
+    let known = Format::try_from(format)?;
+    match known {
+        Format::F201 => plan_months(record_count(known) as u16, fields),
+        Format::F202 => plan_months(record_count(known) as u16, fields),
+        Format::F203 => plan_update(fields),
+        Format::F301 => Err(Cause::Name),
     }
-    if format == MONTHLY {
-        return plan_months(
-            layout::record_count(Format::F202) as u16,
-            schedule,
-            start,
-            rates,
-        );
-    }
-    if format == UPDATE {
-        return plan_update(schedule, start, next, rates);
-    }
-    Plan::Refused(Cause::Name)
 }

@@ -1,4 +1,5 @@
 -- The laws of the plant: what a valid one has, what installing leaves, and the bounds of p and of the command.
+use Rattle.std.specs.Prelude.{Ok, Err}
 use Prim.Native.Nat.{ℕ, zero, suc, ◌*◌, ◌/◌, ◌≤◌, ◌<◌}
 use mathlib.Core.Path.{◌≡◌, ◌∙◌, refl, ap}
 use mathlib.Core.Bool.{Bool, true, false, cond, ◌&&◌}
@@ -8,12 +9,12 @@ use native.Mathlib.Omega.{arith}
 use lib.Dec.{leb, eqb}
 use lib.ListN.{length, get_or}
 use borrow.Author.Tests.{le-leb, leb-true, eqb-true}
+use Rattle.rules.specs.Causes.{Answer}
 use Rattle.rules.specs.Digits.{all_at_most, digits}
 use Rattle.rules.specs.Plant.{Settings, plant_id, last_digit, weighted_sum, check_digit, hex_byte, all_hex, mac_address, capacity, ramp_minutes, valid_settings, contracted, percent, parts_of, full_command, installing}
 use Rattle.rules.specs.Body.{highest_rate}
 use Rattle.rules.specs.Store.{longest_wait}
 use Rattle.rules.specs.Machine.{fixed_wait, update_wait, refused_wait}
-use Rattle.rules.specs.declared.Answer.{Answer}
 use Rattle.rules.specs.declared.Cause.{Cause}
 use Rattle.laws.proofs.Tests.{both}
 use Rattle.laws.proofs.Bytes.{at-most-at}
@@ -129,41 +130,41 @@ unfolding valid_plant mac_address all_hex valid_settings plant_id check_digit we
 no-plant = refl
 
 module _ (id mac : List ℕ) (s : Settings) where
-  pub id_refuses : plant_id id ≡ false → installing id mac s ≡ Answer.Refused Cause.PlantId
+  pub id_refuses : plant_id id ≡ false → installing id mac s ≡ Err Cause.PlantId
   unfolding installing
   id_refuses e = rw e refl
 
-  pub setting-refuses : plant_id id ≡ true → (mac_address mac && valid_settings s) ≡ false → installing id mac s ≡ Answer.Refused Cause.Setting
+  pub setting-refuses : plant_id id ≡ true → (mac_address mac && valid_settings s) ≡ false → installing id mac s ≡ Err Cause.Setting
   unfolding installing
   setting-refuses e f = rw (e, f) refl
 
-  pub all-accepted : plant_id id ≡ true → (mac_address mac && valid_settings s) ≡ true → installing id mac s ≡ Answer.Accepted
+  pub all-accepted : plant_id id ≡ true → (mac_address mac && valid_settings s) ≡ true → installing id mac s ≡ Ok tt
   unfolding installing
   all-accepted e f = rw (e, f) refl
 
   -- a refused installation keeps nothing
-  pub refused_none : (c : Cause) → installing id mac s ≡ Answer.Refused c → installed id mac s ≡ refusal c
+  pub refused_none : (c : Cause) → installing id mac s ≡ Err c → installed id mac s ≡ refusal c
   unfolding installed
   refused_none c e = rw e refl
 
-  module _ (a : installing id mac s ≡ Answer.Accepted) where
+  module _ (a : installing id mac s ≡ Ok tt) where
     -- an accepted one keeps the caller's values
-    pub accepted-keeps : installed id mac s ≡ record { answer = Answer.Accepted; plant = plant_of id mac s }
+    pub accepted-keeps : installed id mac s ≡ record { answer = Ok tt; plant = plant_of id mac s }
     unfolding installed
     accepted-keeps = rw a refl
 
     -- and they are a valid plant
     pub accepted-values : valid_plant (plant_of id mac s) ≡ true
     unfolding valid_plant installing
-    accepted-values = go (plant_id id) (mac_address mac) (valid_settings s) a
+    accepted-values = go (plant_id id) (mac_address mac) (valid_settings s) (Ok tt) refl a
       where
-        go : (i m v : Bool)
-            → cond i (cond (m && v) Answer.Accepted (Answer.Refused Cause.Setting)) (Answer.Refused Cause.PlantId) ≡ Answer.Accepted
+        go : (i m v : Bool) (ok : Answer) → ok ≡ Ok tt
+            → cond i (cond (m && v) ok (Err Cause.Setting)) (Err Cause.PlantId) ≡ ok
             → (i && m && v) ≡ true
-        go true true true e = refl
-        go true true false e = cc
-        go true false v e = cc
-        go false m v e = cc
+        go true true true ok is e = refl
+        go true true false ok is e = cc
+        go true false v ok is e = cc
+        go false m v ok is e = cc
 
     pub accepted-facts : Valid (plant_of id mac s)
     accepted-facts = valid-facts (plant_of id mac s) accepted-values

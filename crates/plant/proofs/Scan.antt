@@ -9,13 +9,14 @@ use native.Mathlib.Omega.{arith}
 use native.Mathlib.Nat.{mul-le-mul_left, le_trans, le_of_suc-le-suc, eq-or-lt_of_le}
 use borrow.Author.Tests.{eqb-true}
 use lib.Dec.{eqb, lit≤}
-use lib.ListN.{length, get_or, drop, drop_of_length-le}
+use lib.ListN.{length, get_or, drop}
 use Rattle.rules.specs.Store.{all_below}
 use Rattle.rules.specs.Plant.{weights, weighted_sum, all_hex, hex_byte}
 use Rattle.laws.proofs.Bytes.{at_next}
 use Rattle.digits.proofs.Scan.{all-step, all_end}
 
-pub hex-step : (s : List ℕ) (i : ℕ) (good : Bool) → i < length s → (good && all_hex (drop i s)) ≡ ((good && hex_byte (get_or s i 0)) && all_hex (drop (i + 1) s))
+pub hex-step : (s : List ℕ) (i : ℕ) (good : Bool) → i < length s
+    → (good && all_hex (drop i s)) ≡ ((good && hex_byte (get_or s i 0)) && all_hex (drop (i + 1) s))
 unfolding all_hex
 hex-step = all-step hex_byte all_hex refl (λ x xs. refl)
 
@@ -28,10 +29,6 @@ pub weighted-step : (s : List ℕ) (i : ℕ) → i < length s
     → weighted_sum i (drop i s) ≡ get_or s i 0 * get_or weights (i % 5) 0 + weighted_sum (i + 1) (drop (i + 1) s)
 unfolding weighted_sum
 weighted-step s i h = rw (at_next s i h, add-one i) refl
-
-pub weighted-end : (s : List ℕ) (i : ℕ) → length s ≤ i → weighted_sum i (drop i s) ≡ 0
-unfolding weighted_sum
-weighted-end s i h = rw drop_of_length-le refl
 
 -- each number below n passes
 all-at : (n : ℕ) (test : ℕ → Bool) → all_below n test ≡ true → (k : ℕ) → k < n → test k ≡ true
@@ -57,7 +54,7 @@ pub weight_is : (k : ℕ) → k < 25 → get_or weight_table k 0 ≡ get_or weig
 unfolding all_below right
 weight_is k l = eqb-true (get_or weight_table k 0) (get_or weights (k % 5) 0) (all-at 25 right refl k l)
 
-pub weight_bound : (k : ℕ) → get_or weights k 0 ≤ 9
+weight_bound : (k : ℕ) → get_or weights k 0 ≤ 9
 weight_bound zero = lit≤ tt
 weight_bound (suc zero) = lit≤ tt
 weight_bound (suc (suc zero)) = lit≤ tt

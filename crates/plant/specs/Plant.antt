@@ -1,7 +1,7 @@
 -- The plant that a unit keeps: its settings, whether it is valid, and what installing one gives.
-use Rattle.std.specs.Prelude.{ℕ, min, Bool, ◌&&◌, List, leb, replicate}
+use Rattle.rules.specs.Causes.{Answer}
+use Rattle.std.specs.Prelude.{ℕ, min, Bool, ◌&&◌, List, leb, replicate, Ok, Err}
 use Rattle.rules.specs.Plant.{Settings, plant_id, mac_address, valid_settings, installing}
-use Rattle.rules.specs.declared.Answer.{Answer}
 use Rattle.rules.specs.declared.Cause.{Cause}
 use Rattle.plant.specs.declared.Settings.{Settings as Kept}
 use Rattle.plant.specs.declared.GivenSettings.{GivenSettings as Given}
@@ -50,11 +50,11 @@ no_plant = plant_of (replicate 26 0) (replicate 12 0) (record { panel = 0; inver
 
 -- the plant that an answer leaves, where p asks to be installed
 abbrev pub kept : Answer → Plant → Plant
-kept Answer.Accepted p = p
-kept (Answer.Refused c) p = no_plant
+kept (Ok tt) p = p
+kept (Err c) p = no_plant
 
 abbrev pub refusal : Cause → Installed
-refusal c = record { answer = Answer.Refused c; plant = no_plant }
+refusal c = record { answer = Err c; plant = no_plant }
 
 -- what installing gives: 01's answer, and the plant of the caller's values where it is accepted
 unfoldable pub installed : List ℕ → List ℕ → Settings → Installed

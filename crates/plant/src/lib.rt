@@ -1,11 +1,11 @@
 // The plant (01, Time, plant, settings): its ID, its MAC address, its settings, and percent of the inverter from percent of C.
 #![tactic(auto)]
 
-ghost use Rattle.std.specs.Prelude.{◌≡◌, ◌≤◌, min, length};
+ghost use Rattle.std.specs.Prelude.{◌≡◌, ◌≤◌, min, length, Ok};
 ghost use Rattle.rules.specs.Plant.{plant_id, weighted_sum, mac_address, all_hex, hex_byte, valid_settings, capacity, contracted, percent, parts_of, last_digit, installing};
 ghost use Rattle.plant.specs.Plant.{kept_of, kept_from, given_of, widest, narrowed, settings_of, valid_plant, plant_of, installed, refusal};
 
-use rules::{Answer, Cause};
+use rules::Cause;
 
 // 'A plant ID is 26 digits'.
 const ID_LENGTH: usize = 26;
@@ -58,10 +58,10 @@ pub struct Plant {
     pub settings: Settings,
 }
 
-// The answer to install, and the plant where it is accepted; else zeros, which are no valid plant.
+// The answer to install, and the plant where it is accepted; else zeros, which are no valid plant. No Result: C gets a struct in either case.
 #[derive(Clone, Copy)]
 pub struct Installed {
-    pub answer: Answer,
+    pub answer: Result<(), Cause>,
     pub plant: Plant,
 }
 
@@ -71,10 +71,8 @@ fn weighted_sum(s: &[u8]) -> u16
     ensures { result ≡ weighted_sum 0 s.now }
 {
     let mut sum: u16 = 0;
-    let mut i = 0;
-    while i < s.len() {
-        sum += (s[i] as u16) * (WEIGHTS[i] as u16);
-        i += 1;
+    for (i, &x) in s.iter().enumerate() {
+        sum += (x as u16) * (WEIGHTS[i] as u16);
     }
     sum
 }
@@ -101,10 +99,8 @@ fn all_hex(s: &[u8]) -> bool
     ensures { result ≡ all_hex s.now }
 {
     let mut good = true;
-    let mut i = 0;
-    while i < s.len() {
-        good = good & is_hex_byte(s[i]);
-        i += 1;
+    for &x in s {
+        good &= is_hex_byte(x);
     }
     good
 }
@@ -127,18 +123,7 @@ fn is_capacity(watts: u64) -> bool
 fn narrow(wide: u64) -> u32
     ensures { result ≡ min wide widest }
 {
-    if wide <= WIDEST {
-        wide as u32
-    } else {
-        WIDEST as u32
-    }
-}
-
-// The lesser of two numbers.
-fn least(a: u64, b: u64) -> u64
-    ensures { result ≡ min a b }
-{
-    if a <= b { a } else { b }
+    wide.min(WIDEST) as u32
 }
 
 impl GivenSettings {
@@ -179,13 +164,13 @@ impl Settings {
     fn contracted(self) -> u64
         ensures { result ≡ contracted (kept_of self) }
     {
-        least(self.panel as u64, self.inverter as u64)
+        self.panel.min(self.inverter) as u64
     }
 }
 
 // The plant of values that installing accepts.
 fn make(id: &[u8], mac: &[u8], given: GivenSettings) -> Plant
-    requires { installing id.now mac.now (given_of given) ≡ Answer.Accepted }
+    requires { installing id.now mac.now (given_of given) ≡ Ok tt }
     ensures { result ≡ plant_of id.now mac.now (given_of given) }
 {
     let mut own_id = [0u8; ID_LENGTH];
@@ -204,7 +189,7 @@ fn refuse(cause: Cause) -> Installed
     ensures { result ≡ refusal cause }
 {
     Installed {
-        answer: Answer::Refused(cause),
+        answer: Err(cause),
         plant: Plant {
             id: [0u8; ID_LENGTH],
             mac: [0u8; MAC_LENGTH],
@@ -229,7 +214,7 @@ impl Plant {
             return refuse(Cause::Setting);
         }
         Installed {
-            answer: Answer::Accepted,
+            answer: Ok(()),
             plant: make(id, mac, given),
         }
     }

@@ -1,4 +1,5 @@
 -- What is due is what the machine replies: by the two tests.
+use Rattle.std.specs.Prelude.{Some, None, Ok}
 use Prim.Native.Nat.{ℕ}
 use mathlib.Core.Path.{◌≡◌, refl}
 use mathlib.Core.Bool.{Bool, true, false, cond}
@@ -8,7 +9,7 @@ use Rattle.rules.specs.Machine.{due_of}
 use Rattle.rules.specs.declared.Due.{Due}
 use Rattle.polling.specs.Due.{asks_fixed, due_for, DueAsMachine}
 
-picked : (a b : Bool) (w : ℕ) → of_due (cond a Due.Update (cond b (Due.Fixed w) Due.Nothing)) ≡ cond a update (cond b (fixed w) nothing)
+picked : (a b : Bool) (w : ℕ) → of_due (Ok (cond a (Some Due.Update) (cond b (Some (Due.Fixed w)) None))) ≡ cond a update (cond b (fixed w) nothing)
 picked true b w = refl
 picked false true w = refl
 picked false false w = refl

@@ -1,5 +1,5 @@
 -- What is due, as the code answers it, and that it is what the plain machine replies.
-use Rattle.std.specs.Prelude.{ℕ, ◌≡◌, Bool, cond, not, ◌&&◌, ◌||◌, leb, ltb, eqb}
+use Rattle.std.specs.Prelude.{ℕ, ◌≡◌, Bool, cond, not, ◌&&◌, ◌||◌, leb, ltb, eqb, Option, Some, None, Ok}
 use Rattle.rules.specs.Causes.{of_due}
 use Rattle.rules.specs.Machine.{due_of, in_window}
 use Rattle.rules.specs.Plant.{Settings}
@@ -15,9 +15,9 @@ asks_fixed s d t q =
     && (ltb 0 q.failures || in_window s d t)
 
 -- 'update if clock ≥ u; else fixed with w if ..; else nothing'
-unfoldable pub due_for : Settings → ℕ → ℕ → Requests → Due
-due_for s d t q = cond (leb q.update_at t) Due.Update (cond (asks_fixed s d t q) (Due.Fixed q.wanted_flag) Due.Nothing)
+unfoldable pub due_for : Settings → ℕ → ℕ → Requests → Option Due
+due_for s d t q = cond (leb q.update_at t) (Some Due.Update) (cond (asks_fixed s d t q) (Some (Due.Fixed q.wanted_flag)) None)
 
 -- for all settings, every check digit, clock and requests the answer says what the machine replies
 abbrev pub DueAsMachine : Type 0
-DueAsMachine = (s : Settings) (d t : ℕ) (q : Requests) → of_due (due_for s d t q) ≡ due_of s d t q
+DueAsMachine = (s : Settings) (d t : ℕ) (q : Requests) → of_due (Ok (due_for s d t q)) ≡ due_of s d t q

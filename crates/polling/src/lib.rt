@@ -15,7 +15,7 @@ use habits::{fixed_wait, refused_wait, retries, update_wait, window_length};
 use plant::Settings;
 use rules::{DAY_LENGTH, Due, END_OF_TIME, Kind, LONGEST_WAIT};
 
-// 'flags 0 to 10 (10 is none)'.
+// 'flags 0 to 10 (10 is none)': a number for none, since C's struct holds the flag as it is.
 pub const NO_FLAG: u8 = 10;
 
 // 'f and u below T + 172,800'.
@@ -27,7 +27,7 @@ const FIRST_WINDOW: u32 = 21 * 3600 + 10 * 60;
 const WINDOW_STEP: u32 = 1800;
 
 // wanted_flag is w, held_flag h, failures k, fixed_at f and update_at u.
-#[derive(Clone, Copy)]
+#[derive(Clone, Copy, Debug, PartialEq, Eq)]
 pub struct Requests {
     pub wanted_flag: u8,
     pub held_flag: u8,
@@ -130,20 +130,14 @@ impl Requests {
     {
         let update_at = update_time(clock, next);
         if flag == self.wanted_flag {
-            return Requests {
-                wanted_flag: self.wanted_flag,
-                held_flag: self.held_flag,
-                failures: self.failures,
-                fixed_at: self.fixed_at,
-                update_at,
-            };
+            return Requests { update_at, ..self };
         }
         Requests {
             wanted_flag: flag,
-            held_flag: self.held_flag,
             failures: 0,
             fixed_at: 0,
             update_at,
+            ..self
         }
     }
 
@@ -152,11 +146,10 @@ impl Requests {
         ensures { result ≡ requests_from (take_year digit (requests_of self)) }
     {
         Requests {
-            wanted_flag: self.wanted_flag,
             held_flag: digit,
             failures: 0,
             fixed_at: 0,
-            update_at: self.update_at,
+            ..self
         }
     }
 
@@ -164,11 +157,8 @@ impl Requests {
         ensures { result ≡ requests_from (failed_update (kept_of settings) clock status (requests_of self)) }
     {
         Requests {
-            wanted_flag: self.wanted_flag,
-            held_flag: self.held_flag,
-            failures: self.failures,
-            fixed_at: self.fixed_at,
             update_at: clock as u64 + wait_after(settings, status) as u64,
+            ..self
         }
     }
 
@@ -179,19 +169,15 @@ impl Requests {
         let most = retries(settings);
         if !is_client_error(status) & (failures < most) {
             return Requests {
-                wanted_flag: self.wanted_flag,
-                held_flag: self.held_flag,
                 failures: failures + 1,
                 fixed_at: clock as u64 + fixed_wait(settings) as u64,
-                update_at: self.update_at,
+                ..self
             };
         }
         Requests {
-            wanted_flag: self.wanted_flag,
-            held_flag: self.held_flag,
             failures: 0,
             fixed_at: next_window(digit, clock),
-            update_at: self.update_at,
+            ..self
         }
     }
 
@@ -213,18 +199,18 @@ impl Requests {
     }
 
     // What is due, for a plant with these settings and that check digit.
-    pub fn due(self, settings: Settings, digit: u8, clock: u32) -> Due
+    pub fn due(self, settings: Settings, digit: u8, clock: u32) -> Option<Due>
         ensures { result ≡ due_for (kept_of settings) digit clock (requests_of self) }
     {
         let now = clock as u64;
         if self.update_at <= now {
-            return Due::Update;
+            return Some(Due::Update);
         }
         let wanted = self.wanted_flag;
         let asked = (wanted != NO_FLAG) & (wanted != self.held_flag) & (self.fixed_at <= now);
         if asked & ((0 < self.failures) | in_window(settings, digit, clock)) {
-            return Due::Fixed(wanted);
+            return Some(Due::Fixed(wanted));
         }
-        Due::Nothing
+        None
     }
 }

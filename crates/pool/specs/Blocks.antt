@@ -1,13 +1,10 @@
 -- The pool of blocks: which are free, which month a used one holds, and what each call answers.
-use Rattle.std.specs.Prelude.{Bool, cond, not, ◌&&◌, ◌||◌, ◌≡◌, List, ℕ, ◌+◌, ◌-◌, ◌<◌, ◌^◌, eqb, ltb, leb, get_or, set}
+use Rattle.std.specs.Prelude.{Bool, cond, not, ◌&&◌, ◌||◌, ◌≡◌, List, ℕ, ◌+◌, ◌-◌, ◌<◌, ◌^◌, eqb, ltb, leb, get_or, set, Option, Some, None}
 use Rattle.rules.specs.Calendar.{month_count, last_month}
 use Rattle.rules.specs.Store.{block_count}
 use Rattle.pool.specs.Below.{count_below, all_below, first_below, pairs_below, number, bit}
 use Rattle.pool.specs.declared.Pool.{Pool}
 use Rattle.pool.specs.declared.Taken.{Taken}
-use Rattle.pool.specs.declared.Found.{Found}
-use Rattle.pool.specs.declared.Found.TheVariants.{At, Nothing}
-use Rattle.pool.specs.declared.Place.TheVariants.{In, Full}
 
 -- the free map has a bit for each block
 abbrev pub free_width : ℕ
@@ -32,10 +29,10 @@ unfoldable pub free_count : Pool → ℕ
 free_count p = count_below block_count (is_free p)
 
 -- the block of month m
-abbrev pub found_at : ℕ → Found
-found_at b = cond (ltb b block_count) (At b) Nothing
+abbrev pub found_at : ℕ → Option ℕ
+found_at b = cond (ltb b block_count) (Some b) None
 
-unfoldable pub find_of : Pool → ℕ → Found
+unfoldable pub find_of : Pool → ℕ → Option ℕ
 find_of p m = found_at (first_below block_count (holds p m))
 
 -- block b given to month m: no longer free
@@ -46,7 +43,7 @@ given p m b = record { months = set p.months b m; free = number block_count (λ 
 unfoldable pub take_of : Pool → ℕ → Taken
 take_of p m =
     let b = first_below block_count (is_free p) in
-    cond (ltb b block_count) (record { pool = given p m b; place = In b }) (record { pool = p; place = Full })
+    cond (ltb b block_count) (record { pool = given p m b; place = Some b }) (record { pool = p; place = None })
 
 -- block b is free, or its month is below floor
 abbrev pub free_after : Pool → ℕ → ℕ → Bool

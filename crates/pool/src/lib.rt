@@ -4,7 +4,7 @@ ghost use Rattle.std.specs.Prelude.{◌≡◌, ℕ, ◌<◌, ◌+◌, ◌*◌, �
 ghost use Rattle.rules.specs.Store.{block_count};
 ghost use Rattle.pool.specs.Below.{tick, count_below, all_below, pairs_below};
 ghost use Rattle.pool.specs.Held.{sound_pool};
-ghost use Rattle.pool.specs.Blocks.{holds, free_count, find_of, take_of, free_after, release_of, in_range, key_of, KeysOf};
+ghost use Rattle.pool.specs.Blocks.{is_free, holds, free_count, find_of, take_of, free_after, release_of, in_range, key_of, KeysOf};
 
 use rules::{BLOCK_COUNT, LAST_MONTH, MONTH_COUNT};
 
@@ -19,21 +19,9 @@ pub struct Pool {
 pub const ALL_FREE: u16 = ((1u64 << BLOCK_COUNT) - 1) as u16;
 
 #[derive(Clone, Copy)]
-pub enum Found {
-    At(usize),
-    Nothing,
-}
-
-#[derive(Clone, Copy)]
-pub enum Place {
-    In(usize),
-    Full,
-}
-
-#[derive(Clone, Copy)]
 pub struct Taken {
     pub pool: Pool,
-    pub place: Place,
+    pub place: Option<usize>,
 }
 
 // A test as the binary digit b.
@@ -52,10 +40,8 @@ fn same_keys(keys: [u16; BLOCK_COUNT], key: u16) -> u16
     ensures { result ≡ count_below block_count (λ c. eqb (get_or keys c 0) key) }
 {
     let mut count: u16 = 0;
-    let mut b: usize = 0;
-    while b < BLOCK_COUNT {
-        count += (keys[b] == key) as u16;
-        b += 1;
+    for other in keys.iter() {
+        count += (*other == key) as u16;
     }
     count
 }
@@ -68,22 +54,26 @@ fn pairs(keys: [u16; BLOCK_COUNT]) -> u16
     ensures { result ≡ pairs_below block_count (λ c. get_or keys c 0) }
 {
     let mut count: u16 = 0;
-    let mut b: usize = 0;
-    while b < BLOCK_COUNT {
-        count += same_keys(keys, keys[b]);
-        b += 1;
+    for key in keys.iter() {
+        count += same_keys(keys, *key);
     }
     count
 }
 
 impl Pool {
+    // Whether block b is free. No block from BLOCK_COUNT on is, and the map has no bit to shift to there.
+    pub fn is_free(self, b: usize) -> bool
+        ensures { result ≡ is_free self b }
+    {
+        b < BLOCK_COUNT && (self.free >> b) % 2 == 1
+    }
+
     // Whether block b is used and has the month.
     fn holds_month(self, month: u16, b: usize) -> bool
         requires { b < block_count }
         ensures { result ≡ holds self month b }
     {
-        let months = self.months;
-        ((self.free >> b) % 2 != 1) & (months[b] == month)
+        !self.is_free(b) & (self.months[b] == month)
     }
 
     pub fn free_count(self) -> u32
@@ -93,17 +83,15 @@ impl Pool {
     }
 
     // The block that holds the month.
-    pub fn find(self, month: u16) -> Found
+    pub fn find(self, month: u16) -> Option<usize>
         ensures { result ≡ find_of self month }
     {
-        let mut b: usize = 0;
-        while b < BLOCK_COUNT {
+        for b in 0..BLOCK_COUNT {
             if self.holds_month(month, b) {
-                return Found::At(b);
+                return Some(b);
             }
-            b += 1;
         }
-        Found::Nothing
+        None
     }
 
     // Gives the lowest free block to the month.
@@ -114,7 +102,7 @@ impl Pool {
         if BLOCK_COUNT <= b {
             return Taken {
                 pool: self,
-                place: Place::Full,
+                place: None,
             };
         }
         let mut months = self.months;
@@ -122,7 +110,7 @@ impl Pool {
         let free = self.free - (1u16 << b);
         Taken {
             pool: Pool { months, free },
-            place: Place::In(b),
+            place: Some(b),
         }
     }
 
@@ -131,22 +119,18 @@ impl Pool {
         requires { b < block_count }
         ensures { result ≡ free_after self floor b }
     {
-        let months = self.months;
-        ((self.free >> b) % 2 == 1) | (months[b] < floor)
+        self.is_free(b) | (self.months[b] < floor)
     }
 
     // Frees every used block whose month is below floor.
     pub fn release_below(self, floor: u16) -> Pool
         ensures { result ≡ release_of self floor }
     {
-        let months = self.months;
         let mut free: u16 = 0;
-        let mut b: usize = 0;
-        while b < BLOCK_COUNT {
-            free = free + digit(self.free_after(floor, b), b);
-            b += 1;
+        for b in 0..BLOCK_COUNT {
+            free += digit(self.free_after(floor, b), b);
         }
-        Pool { months, free }
+        Pool { free, ..self }
     }
 
     // Whether block b is free, or has a month between floor and the last one.
@@ -154,20 +138,16 @@ impl Pool {
         requires { b < block_count }
         ensures { result ≡ in_range self floor b }
     {
-        let months = self.months;
-        let month = months[b];
-        let free = (self.free >> b) % 2 == 1;
-        free | (floor <= month) & (month <= LAST_MONTH)
+        let month = self.months[b];
+        self.is_free(b) | (floor <= month) & (month <= LAST_MONTH)
     }
 
     fn all_in_range(self, floor: u16) -> bool
         ensures { result ≡ all_below block_count (in_range self floor) }
     {
         let mut good = true;
-        let mut b: usize = 0;
-        while b < BLOCK_COUNT {
+        for b in 0..BLOCK_COUNT {
             good = self.in_range(floor, b) & good;
-            b += 1;
         }
         good
     }
@@ -177,11 +157,10 @@ impl Pool {
         requires { b < block_count }
         ensures { result ≡ key_of self b }
     {
-        let months = self.months;
-        if (self.free >> b) % 2 == 1 {
+        if self.is_free(b) {
             FREE_KEYS + b as u16
         } else {
-            months[b]
+            self.months[b]
         }
     }
 
@@ -189,10 +168,8 @@ impl Pool {
         ensures { KeysOf self result }
     {
         let mut keys = [0u16; BLOCK_COUNT];
-        let mut b: usize = 0;
-        while b < BLOCK_COUNT {
-            keys[b] = self.key(b);
-            b += 1;
+        for (b, key) in keys.iter_mut().enumerate() {
+            *key = self.key(b);
         }
         keys
     }

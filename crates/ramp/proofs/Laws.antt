@@ -1,12 +1,12 @@
 -- The laws of the command over the seconds of a tick: it splits at any second, reads only the slots of its seconds, stays legal, and
 -- stands on a slot's goal after the whole of it.
+use Rattle.std.specs.Prelude.{Some, None, Option}
 use Prim.Native.Nat.{ℕ, zero, suc, ◌+◌, ◌-◌, ◌*◌, ◌≤◌, ◌<◌, min, max, zero-le}
 use native.Mathlib.Nat.{add-zero, zero-add, add-suc, suc-add, le_trans}
 use native.Mathlib.Omega.{arith}
 use mathlib.Core.Path.{◌≡◌, refl, sym, ap, ap₂, ◌∙◌}
 use mathlib.Core.Bool.{Bool, true, false, cond, ◌&&◌}
 use mathlib.Core.List.{List, [], ◌∷◌}
-use mathlib.Core.Option.{Option, none, some}
 use lib.Dec.{leb, eqb}
 use lib.ListN.{get_or}
 use borrow.Author.Tests.{leb-true, leb-false, le-leb, lt-leb, eqb-false}
@@ -19,11 +19,9 @@ use Rattle.plant.specs.declared.Plant.{Plant}
 use Rattle.plant.proofs.Laws.{percent-le, product-below}
 use Rattle.pool.specs.Blocks.{find_of}
 use Rattle.pool.specs.declared.Pool.{Pool}
-use Rattle.pool.specs.declared.Found.{Found}
-use Rattle.pool.specs.declared.Found.TheVariants.{At, Nothing}
 use Rattle.schedule.specs.Stored.{rate_found, stored_rate}
 use Rattle.ceiling.specs.Ceiling.{slot_ceiling}
-use Rattle.ceiling.specs.declared.SlotCeiling.TheVariants.{Rated, NoRate}
+use Rattle.rules.specs.declared.Ceiling.{Ceiling}
 use Rattle.ceiling.proofs.Laws.{rated-some, unrated-none}
 use Rattle.ramp.specs.Command.{goal_of, command_over, moved, command_after, last_second}
 
@@ -133,12 +131,12 @@ command_over-same s p q store other (suc n) c x h =
 -- ---- the goal of a slot's ceiling
 
 module _ (s : Settings) (o : Option ℕ) where
-  pub goal_rated : (r p : ℕ) → slot_ceiling s o ≡ Rated r p → parts_of s p ≡ target s o
-  goal_rated r p e =
-      let w = rated-some s o r p e in
+  pub goal_rated : (c : Ceiling) → slot_ceiling s o ≡ Some c → parts_of s c.percent ≡ target s o
+  goal_rated c e =
+      let w = rated-some s o c e in
       ap (parts_of s) w.1 ∙ ap (target s) (sym w.0)
 
-  pub goal-none : slot_ceiling s o ≡ NoRate → parts_of s (percent s 0) ≡ target s o
+  pub goal-none : slot_ceiling s o ≡ None → parts_of s (percent s 0) ≡ target s o
   goal-none e = ap (target s) (sym (unrated-none s o e))
 
 -- ---- bytes, N at most 10: every goal is within a slot's reach
@@ -154,7 +152,7 @@ from-byte-most : (b : ℕ) → b ≤ no_rate → or_zero (from_byte b) ≤ 254
 unfolding from_byte
 from-byte-most b h = go (eqb b no_rate) refl
   where
-    go : (t : Bool) → eqb b no_rate ≡ t → or_zero (cond t none (some b)) ≤ 254
+    go : (t : Bool) → eqb b no_rate ≡ t → or_zero (cond t None (Some b)) ≤ 254
     go true e = zero-le
     go false e = omega (arith, eqb-false b no_rate e)
 
@@ -162,9 +160,9 @@ pub stored-most : (p : Pool) (store : List ℕ) → ((i : ℕ) → get_or store 
 unfolding stored_rate
 stored-most p store bytes slot = go (find_of p _) _
   where
-    go : (f : Found) (i : ℕ) → or_zero (rate_found f store i) ≤ 254
-    go (At b) i = from-byte-most (get_or store (b * block_length + i) no_rate) (byte-most store bytes (b * block_length + i))
-    go Nothing i = zero-le
+    go : (f : Option ℕ) (i : ℕ) → or_zero (rate_found f store i) ≤ 254
+    go (Some b) i = from-byte-most (get_or store (b * block_length + i) no_rate) (byte-most store bytes (b * block_length + i))
+    go None i = zero-le
 
 pub goal-most : (s : Settings) (p : Pool) (store : List ℕ) → s.minutes ≤ 10 → ((i : ℕ) → get_or store i 0 < 256) → (slot : ℕ) → goal_of s p store slot ≤ 152400
 goal-most s p store few bytes slot =
@@ -253,8 +251,8 @@ module _ (plant : Plant) (p : Pool) (store : List ℕ) (clock until x : ℕ) whe
   pub after-no-second : until ≤ clock → command_after plant p store clock until x ≡ x
   unfolding command_after command_over
   after-no-second h =
-      let none : until - clock ≡ 0 = omega arith in
-      rw none (same (leb plant.settings.minutes 10 && leb x 60000))
+      let still : until - clock ≡ 0 = omega arith in
+      rw still (same (leb plant.settings.minutes 10 && leb x 60000))
     where
       same : (t : Bool) → cond t x x ≡ x
       same true = refl

@@ -6,7 +6,6 @@ ghost use Rattle.rules.specs.Calendar.{slot_length};
 ghost use Rattle.plant.specs.Plant.{settings_of};
 ghost use Rattle.ramp.specs.Command.{goal_of, command_over, moved, last_second, InReach, command_after};
 
-use ceiling::SlotCeiling;
 use plant::Plant;
 use pool::Pool;
 use rules::SLOT_LENGTH;
@@ -45,8 +44,8 @@ fn goal_of(plant: Plant, pool: Pool, store: &[u8], slot: u32) -> u64
     ensures { result ≡ goal_of (settings_of plant) pool store.now slot }
 {
     match ceiling::of_slot(plant, pool, store, slot) {
-        SlotCeiling::Rated { percent, .. } => plant.parts(percent),
-        SlotCeiling::NoRate => plant.parts(plant.percent(0)),
+        Some(ceiling) => plant.parts(ceiling.percent),
+        None => plant.parts(plant.percent(0)),
     }
 }
 
@@ -94,6 +93,7 @@ fn over(plant: Plant, pool: Pool, store: &[u8], clock: u32, until: u32, command:
 }
 
 // The command after a tick from clock to until, from what the pool and the store say before it.
+// Plant, pool and store apart here and above: tried a struct of them: the proof didn't close: that a store in a struct holds bytes, which bounds each goal.
 pub fn command_after(
     plant: Plant,
     pool: Pool,

@@ -1,9 +1,9 @@
 -- Laws of a body that stands: what its tests say, and that it is a body that parses.
+use Rattle.std.specs.Prelude.{None, Some}
 use Prim.Native.Nat.{ℕ, ◌-◌}
 use mathlib.Core.Path.{◌≡◌, ◌∙◌, refl}
 use mathlib.Core.Bool.{Bool, true, false, cond}
 use mathlib.Core.List.{List}
-use mathlib.Core.Option.{none, some}
 use lib.ListN.{length, take, drop}
 use Rattle.rules.specs.Body.{Record, schedule, count_of, parse_body, counted, is_schedule}
 use Rattle.rules.specs.declared.Format.{Format}
@@ -31,12 +31,12 @@ module _ (f : Format) (body : List ℕ) where
 
 -- a schedule's body parses where it stands
 pub parse-standing : (f : Format) (body : List ℕ) → is_schedule f ≡ true
-    → parse_body f body ≡ cond (standing f body) (some (schedule (records_at f body))) none
+    → parse_body f body ≡ cond (standing f body) (Some (schedule (records_at f body))) None
 parse-standing f body i = parse_is f body i
 
 module _ (f : Format) (body : List ℕ) (i : is_schedule f ≡ true) where
-  pub parses-not : standing f body ≡ false → parse_body f body ≡ none
+  pub parses-not : standing f body ≡ false → parse_body f body ≡ None
   parses-not e = parse-standing f body i ∙ rw e refl
 
-  pub parses-as : standing f body ≡ true → parse_body f body ≡ some (schedule (records_at f body))
+  pub parses-as : standing f body ≡ true → parse_body f body ≡ Some (schedule (records_at f body))
   parses-as e = parse-standing f body i ∙ rw e refl

@@ -1,12 +1,12 @@
 -- Laws of finding a record: the answer for each test, and that the parts at its places are the fields of the record.
+use Rattle.std.specs.Prelude.{Ok, Err, None, Some, slice_get}
 use Prim.Native.Nat.{ℕ, zero, suc, ◌+◌, ◌-◌, ◌≤◌, ◌<◌}
 use mathlib.Core.Path.{◌≡◌, ◌∙◌, refl, sym, ap}
 use mathlib.Core.Bool.{Bool, true, false, cond, ◌&&◌, false≢true}
 use mathlib.Core.List.{List, [], ◌∷◌}
-use mathlib.Core.Option.{none, some}
 use native.Mathlib.Omega.{arith}
 use lib.Dec.{leb, ltb, eqb}
-use lib.ListN.{length, get_or, get_elem?, take, drop}
+use lib.ListN.{length, get_or, take, drop}
 use lib.Seq.{drop-drop}
 use borrow.Author.Tests.{ltb-true, ltb-false, lt-ltb, le-ltb}
 use Rattle.rules.specs.Digits.{part, all_digits}
@@ -22,7 +22,6 @@ use Rattle.records.specs.Standing.{standing}
 use Rattle.records.specs.Locating.{places_of, places_at, parses, locate, from, size, Piece}
 use Rattle.records.specs.Reading.{field_of, field_in, records_of, record_in}
 use Rattle.records.specs.declared.Places.{Places}
-use Rattle.records.specs.declared.Located.TheVariants.{At, Refused}
 use Rattle.records.specs.declared.Field.{Field}
 use Rattle.records.specs.declared.Field.TheVariants.{Schedule, Plant, Start, Rates, Flag, Checksum, Next}
 use Rattle.records.proofs.Bodies.{stands_facts, records_at, parse-standing, parses-not, parses-as}
@@ -30,19 +29,19 @@ use Rattle.records.proofs.Bodies.{stands_facts, records_at, parse-standing, pars
 -- ---- the answer for each test
 
 module _ (f : Format) (body : List ℕ) (i : ℕ) where
-  pub past-count : count_of f ≤ i → Refused Cause.Range ≡ locate f body i
+  pub past-count : count_of f ≤ i → Err Cause.Range ≡ locate f body i
   unfolding locate
   past-count h = rw (le-ltb i (count_of f) h) refl
 
-  pub no-rates : i < count_of f → is_schedule f ≡ false → Refused Cause.Name ≡ locate f body i
+  pub no-rates : i < count_of f → is_schedule f ≡ false → Err Cause.Name ≡ locate f body i
   unfolding locate
   no-rates h e = rw (lt-ltb i (count_of f) h, e) refl
 
-  pub no-form : i < count_of f → is_schedule f ≡ true → standing f body ≡ false → Refused Cause.Form ≡ locate f body i
+  pub no-form : i < count_of f → is_schedule f ≡ true → standing f body ≡ false → Err Cause.Form ≡ locate f body i
   unfolding locate
   no-form h e n = rw (lt-ltb i (count_of f) h, e, parses-not f body e n) refl
 
-  pub found : {p : Places} → i < count_of f → is_schedule f ≡ true → standing f body ≡ true → p ≡ places_at f body i → At p ≡ locate f body i
+  pub found : {p : Places} → i < count_of f → is_schedule f ≡ true → standing f body ≡ true → p ≡ places_at f body i → Ok p ≡ locate f body i
   unfolding locate
   found h e t p≡ = rw (lt-ltb i (count_of f) h, e, parses-as f body e t, p≡) refl
 
@@ -51,7 +50,7 @@ module _ (f : Format) (body : List ℕ) (i : ℕ) where
 parses-is : (f : Format) (body : List ℕ) → is_schedule f ≡ true → parses (parse_body f body) ≡ standing f body
 parses-is f body i = rw (parse-standing f body i) (go (standing f body) (schedule (records_at f body)))
   where
-    go : (t : Bool) (b : Body) → parses (cond t (some b) none) ≡ t
+    go : (t : Bool) (b : Body) → parses (cond t (Some b) None) ≡ t
     go true b = refl
     go false b = refl
 
@@ -61,18 +60,18 @@ pub record FoundAt (f : Format) (body : List ℕ) (i : ℕ) (p : Places) : Type 
   pub stands : standing f body ≡ true
   pub places : p ≡ places_at f body i
 
-pub found-facts : (f : Format) (body : List ℕ) (i : ℕ) {p : Places} → At p ≡ locate f body i → FoundAt f body i p
+pub found-facts : (f : Format) (body : List ℕ) (i : ℕ) {p : Places} → Ok p ≡ locate f body i → FoundAt f body i p
 unfolding locate
 found-facts f body i {p} e = go (ltb i (count_of f)) refl (is_schedule f) refl e
   where
     last : (t : Bool) → t ≡ standing f body → i < count_of f → is_schedule f ≡ true
-        → At p ≡ need t (Refused Cause.Form) (At (places_at f body i)) → FoundAt f body i p
+        → Ok p ≡ need t (Err Cause.Form) (Ok (places_at f body i)) → FoundAt f body i p
     last true q h s e = record { inside = h; scheduled = s; stands = sym q; places = cc }
     last false q h s e = let z : ◌≡◌ {A = ℕ} 0 1 = cc in absurd (omega arith)
 
     go : (a : Bool) → ltb i (count_of f) ≡ a → (b : Bool) → is_schedule f ≡ b
-        → At p
-        ≡ need a (Refused Cause.Range) (need b (Refused Cause.Name) (need (parses (parse_body f body)) (Refused Cause.Form) (At (places_at f body i))))
+        → Ok p
+        ≡ need a (Err Cause.Range) (need b (Err Cause.Name) (need (parses (parse_body f body)) (Err Cause.Form) (Ok (places_at f body i))))
         → FoundAt f body i p
     go true h true s e = last (parses (parse_body f body)) (parses-is f body s) (ltb-true i (count_of f) h) s e
     go true h false s e = let z : ◌≡◌ {A = ℕ} 0 1 = cc in absurd (omega arith)
@@ -84,7 +83,7 @@ registration-none : (body : List ℕ) → records_of (parse_body F301 body) ≡ 
 unfolding parse_body parse_registration
 registration-none body = go (counted F301 body) (eqb (length (drop 6 body)) 27 && all_digits (part (drop 6 body) 0 26) && leb (get_or (drop 6 body) 26 0) 1)
   where
-    go : (c t : Bool) → records_of (cond c (cond t (some (registration (part (drop 6 body) 0 26) (get_or (drop 6 body) 26 0))) none) none) ≡ []
+    go : (c t : Bool) → records_of (cond c (cond t (Some (registration (part (drop 6 body) 0 26) (get_or (drop 6 body) 26 0))) None) None) ≡ []
     go false t = refl
     go true false = refl
     go true true = refl
@@ -92,56 +91,56 @@ registration-none body = go (counted F301 body) (eqb (length (drop 6 body)) 27 &
 scheduled-records : (f : Format) (body : List ℕ) → is_schedule f ≡ true → records_of (parse_body f body) ≡ cond (standing f body) (records_at f body) []
 scheduled-records f body i = rw (parse-standing f body i) (go (standing f body))
   where
-    go : (t : Bool) → records_of (cond t (some (schedule (records_at f body))) none) ≡ cond t (records_at f body) []
+    go : (t : Bool) → records_of (cond t (Some (schedule (records_at f body))) None) ≡ cond t (records_at f body) []
     go true = refl
     go false = refl
 
-pub past_end : (rs : List Record) (i : ℕ) → length rs ≤ i → get_elem? rs i ≡ none
+pub past_end : (rs : List Record) (i : ℕ) → length rs ≤ i → slice_get rs i ≡ None
 past_end [] i h = refl
 past_end (r ∷ rs) zero h = absurd (omega arith)
 past_end (r ∷ rs) (suc i) h = past_end rs i (omega arith)
 
 module _ (f : Format) (body : List ℕ) (i : ℕ) where
-  none-at : is_schedule f ≡ true → standing f body ≡ false → record_in f body i ≡ none
+  none-at : is_schedule f ≡ true → standing f body ≡ false → record_in f body i ≡ None
   unfolding record_in
   none-at s e = rw (scheduled-records f body s, e) refl
 
-  none-past : is_schedule f ≡ true → count_of f ≤ i → (t : Bool) → standing f body ≡ t → record_in f body i ≡ none
+  none-past : is_schedule f ≡ true → count_of f ≤ i → (t : Bool) → standing f body ≡ t → record_in f body i ≡ None
   unfolding record_in
   none-past s h true e =
       rw (scheduled-records f body s, e) (past_end (records_at f body) i (let k = records-count f (count_of f) (drop 6 body) in omega arith))
   none-past s h false e = none-at s e
 
   -- the record that is found
-  pub record-found : {p : Places} → FoundAt f body i p → record_in f body i ≡ some (record_at f (drop (record_start f body i) body))
+  pub record-found : {p : Places} → FoundAt f body i p → record_in f body i ≡ Some (record_at f (drop (record_start f body i) body))
   unfolding record_in
   record-found a = rw (scheduled-records f body a.scheduled, a.stands) (record_is f body (stands_facts f body a.stands).records i a.inside)
 
-none-registered : (f : Format) (body : List ℕ) (i : ℕ) → is_schedule f ≡ false → record_in f body i ≡ none
+none-registered : (f : Format) (body : List ℕ) (i : ℕ) → is_schedule f ≡ false → record_in f body i ≡ None
 unfolding record_in
 none-registered F201 body i e = absurd (false≢true (sym e))
 none-registered F202 body i e = absurd (false≢true (sym e))
 none-registered F203 body i e = absurd (false≢true (sym e))
 none-registered F301 body i e = rw (registration-none body) refl
 
-pub record-missing : (f : Format) (body : List ℕ) (i : ℕ) {c : Cause} → Refused c ≡ locate f body i → record_in f body i ≡ none
+pub record-missing : (f : Format) (body : List ℕ) (i : ℕ) {c : Cause} → Err c ≡ locate f body i → record_in f body i ≡ None
 unfolding locate
 record-missing f body i {c} e = go (is_schedule f) refl (ltb i (count_of f)) refl e
   where
-    last : (t : Bool) → t ≡ standing f body → is_schedule f ≡ true → Refused c ≡ need t (Refused Cause.Form) (At (places_at f body i)) → record_in f body i ≡ none
+    last : (t : Bool) → t ≡ standing f body → is_schedule f ≡ true → Err c ≡ need t (Err Cause.Form) (Ok (places_at f body i)) → record_in f body i ≡ None
     last true q s e = let z : ◌≡◌ {A = ℕ} 0 1 = cc in absurd (omega arith)
     last false q s e = none-at f body i s (sym q)
 
     go : (b : Bool) → is_schedule f ≡ b → (a : Bool) → ltb i (count_of f) ≡ a
-        → Refused c
-        ≡ need a (Refused Cause.Range) (need b (Refused Cause.Name) (need (parses (parse_body f body)) (Refused Cause.Form) (At (places_at f body i))))
-        → record_in f body i ≡ none
+        → Err c
+        ≡ need a (Err Cause.Range) (need b (Err Cause.Name) (need (parses (parse_body f body)) (Err Cause.Form) (Ok (places_at f body i))))
+        → record_in f body i ≡ None
     go false s a h e = none-registered f body i s
     go true s true h e = last (parses (parse_body f body)) (parses-is f body s) s e
     go true s false h e = none-past f body i s (ltb-false i (count_of f) h) (standing f body) refl
 
 -- the empty part where there is no record
-pub field-missing : (x : Field) (f : Format) (body : List ℕ) (i : ℕ) {c : Cause} → Refused c ≡ locate f body i → [] ≡ field_in x (record_in f body i)
+pub field-missing : (x : Field) (f : Format) (body : List ℕ) (i : ℕ) {c : Cause} → Err c ≡ locate f body i → [] ≡ field_in x (record_in f body i)
 field-missing x f body i e = rw (record-missing f body i e) refl
 
 -- ---- the parts
@@ -194,7 +193,7 @@ module _ (body : List ℕ) (at : ℕ) where
   part-inside Next F301 h = omega arith
 
 -- a field of the record that is found: its place, its length, its bytes
-module _ (x : Field) (f : Format) (body : List ℕ) (i : ℕ) {p : Places} (e : At p ≡ locate f body i) (a n : ℕ) (q : Piece x f p a n) where
+module _ (x : Field) (f : Format) (body : List ℕ) (i : ℕ) {p : Places} (e : Ok p ≡ locate f body i) (a n : ℕ) (q : Piece x f p a n) where
   found_at : FoundAt f body i p
   found_at = found-facts f body i e
 

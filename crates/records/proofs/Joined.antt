@@ -1,5 +1,6 @@
 -- Laws of the rates of records end to end, put into a buffer one record after the other.
-use Prim.Native.Nat.{ℕ, ◌+◌, ◌-◌, ◌*◌, ◌≤◌, ◌<◌}
+use Rattle.std.specs.Prelude.{Ok, Err}
+use Prim.Native.Nat.{ℕ, suc, ◌+◌, ◌-◌, ◌*◌, ◌≤◌, ◌<◌}
 use mathlib.Core.Path.{◌≡◌, ◌∙◌, refl, sym, ap}
 use mathlib.Core.Bool.{true, false}
 use mathlib.Core.List.{List, [], ◌∷◌, ◌++◌}
@@ -9,7 +10,6 @@ use Rattle.rules.specs.Body.{Record, count_of, tail_digits, rates_of, size_of, r
 use Rattle.rules.specs.Lister.{total_rates}
 use Rattle.rules.specs.Writer.{Output, refuse, fitting, written_of, buffer_after}
 use Rattle.rules.specs.declared.Cause.{Cause}
-use Rattle.rules.specs.declared.Written.{Written}
 use Rattle.rules.specs.declared.Format.{Format}
 use Rattle.laws.proofs.Bytes.{part_length, part-rest}
 use Rattle.digits.specs.Placed.{placed}
@@ -45,7 +45,7 @@ module _ (f : Format) (body : List ℕ) (room : ℕ) where
   output-rates i e = rw (i, parses-as f body i e) refl
 
 -- a refusal leaves the buffer
-pub refused : {o : Output} {c : Cause} (before : List ℕ) → refuse c ≡ o → (Written.Refused c ≡ written_of o) × (before ≡ buffer_after o before)
+pub refused : {o : Output} {c : Cause} (before : List ℕ) → refuse c ≡ o → (Err c ≡ written_of o) × (before ≡ buffer_after o before)
 refused before e = (ap written_of e, ap (λ (o : Output). buffer_after o before) e)
 
 -- how many rates the records that stand in s have: x is the bytes of the other fields
@@ -59,20 +59,20 @@ rates-left f s x e x≡ =
 -- ---- a loop that puts record after record: `left` records stand in t, the rates of the next one are put at `place`
 pub record Going (f : Format) (s before out : List ℕ) (left place : ℕ) (t : List ℕ) : Type 0 where
   pub form : shaped f left t ≡ true
-  pub same : length out ≡ length before
   pub enough : place + length (end_to_end (records_from f left t)) ≤ length out
   pub rest : placed out place (end_to_end (records_from f left t)) ≡ placed before 0 (end_to_end (records_from f (count_of f) s))
 
 pub going_start : (f : Format) (s before : List ℕ) {left : ℕ} → RatesRoom f s (length before) → left ≡ count_of f → Going f s before before left 0 s
-going_start f s before h e = rw e (record { form = h.records; same = refl; enough = omega (arith, h.enough); rest = refl })
+going_start f s before h e = rw e (record { form = h.records; enough = omega (arith, h.enough); rest = refl })
 
 module _ (f : Format) (s before out : List ℕ) (left place : ℕ) (t : List ℕ) (g : Going f s before out left place t) where
   pub going_end : left ≤ 0 → out ≡ placed before 0 (end_to_end (records_from f (count_of f) s))
   going_end h = sym (placed-none out place) ∙ rw (records-end f t left h) at g.rest
 
-  module _ (h : 0 < left) where
+  -- one of those that are left, and k after it
+  module _ (k : ℕ) (one : left ≡ suc k) where
     here-whole : Whole f t
-    here-whole = whole-first f t left h g.form
+    here-whole = whole-first f t left (omega arith) g.form
 
     module _ (n : ℕ) (c : n ≡ count_at t) where
       n≡ : n ≡ rates_of t
@@ -90,10 +90,10 @@ module _ (f : Format) (s before out : List ℕ) (left place : ℕ) (t : List ℕ
       these_are = part-to t 53 n ∙ rw n≡ refl
 
       first-split : {z : ℕ} → z ≡ size_of f t
-          → end_to_end (records_from f left t) ≡ these ++ end_to_end (records_from f (left - 1) (take (length t - z) (drop z t)))
+          → end_to_end (records_from f left t) ≡ these ++ end_to_end (records_from f k (take (length t - z) (drop z t)))
       first-split {z} z≡ =
-          ap end_to_end (records-step f t left h z≡)
-          ∙ ap (λ (x : List ℕ). x ++ end_to_end (records_from f (left - 1) (take (length t - z) (drop z t)))) (sym these_are)
+          ap end_to_end (records-step f t left one z≡)
+          ∙ ap (λ (x : List ℕ). x ++ end_to_end (records_from f k (take (length t - z) (drop z t)))) (sym these_are)
 
       these-long : length these ≡ n
       these-long = ap length (part-to t 53 n) ∙ part_length t 53 n rates-inside
@@ -101,7 +101,7 @@ module _ (f : Format) (s before out : List ℕ) (left place : ℕ) (t : List ℕ
       pub rates-room : place + n ≤ length out
       rates-room =
           let e = ap length (first-split refl) in
-          omega (arith, these-long, g.enough, length-append these (end_to_end (records_from f (left - 1) (take (length t - size_of f t) (drop (size_of f t) t)))))
+          omega (arith, these-long, g.enough, length-append these (end_to_end (records_from f k (take (length t - size_of f t) (drop (size_of f t) t)))))
 
       module _ (tail : ℕ) (tail≡ : tail ≡ tail_digits f) where
         size_is : 53 + n + tail ≡ size_of f t
@@ -111,15 +111,14 @@ module _ (f : Format) (s before out : List ℕ) (left place : ℕ) (t : List ℕ
         next-inside = within f t here-whole size_is
 
         pub going_next : {o : List ℕ} → length o ≡ length out → o ≡ placed out place these
-            → Going f s before o (left - 1) (place + n) (take (length t - (53 + n + tail)) (drop (53 + n + tail) t))
+            → Going f s before o k (place + n) (take (length t - (53 + n + tail)) (drop (53 + n + tail) t))
         going_next {o} len q =
             let z = 53 + n + tail in
-            let others = end_to_end (records_from f (left - 1) (take (length t - z) (drop z t))) in
+            let others = end_to_end (records_from f k (take (length t - z) (drop z t))) in
             let split = first-split size_is in
             let e = ap length split in
             record {
-              form = shaped-rest f t left h size_is g.form;
-              same = len ∙ g.same;
+              form = shaped-rest f t left one size_is g.form;
               enough = omega (arith, these-long, g.enough, length-append these others);
               rest = placed-next out these others place q (omega (arith, these-long)) ∙ ap (placed out place) (sym split) ∙ g.rest;
             }
@@ -145,12 +144,12 @@ module _ (f : Format) (body before : List ℕ) (i : is_schedule f ≡ true) (t :
   copied-length = (rates-left f s x s-shaped x≡).1
 
   pub copy-short : length before < length s - x
-      → (Written.Refused Cause.Buffer ≡ written_of (rates_output f body (length before))) × (before ≡ buffer_after (rates_output f body (length before)) before)
+      → (Err Cause.Buffer ≡ written_of (rates_output f body (length before))) × (before ≡ buffer_after (rates_output f body (length before)) before)
   copy-short h = rw (sym output_is) (no_room before rates copied-length h)
 
   pub copy-room : length s - x ≤ length before → RatesRoom f s (length before)
   copy-room h = record { records = s-shaped; enough = omega (arith, copied-length) }
 
   pub copy_done : {after : List ℕ} → length s - x ≤ length before → after ≡ placed before 0 rates
-      → (Written.Length (length s - x) ≡ written_of (rates_output f body (length before))) × (after ≡ buffer_after (rates_output f body (length before)) before)
+      → (Ok (length s - x) ≡ written_of (rates_output f body (length before))) × (after ≡ buffer_after (rates_output f body (length before)) before)
   copy_done h p = rw (sym output_is) (with-room before rates copied-length h p)

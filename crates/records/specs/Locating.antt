@@ -1,6 +1,5 @@
 -- Where the fields of a record stand in its body.
-use Rattle.std.specs.Prelude.{ℕ, ◌+◌, ◌≡◌, Bool, true, false, List, ltb, drop}
-use Rattle.std.proofs.Math.Option.{Option, none, some}
+use Rattle.std.specs.Prelude.{ℕ, ◌+◌, ◌≡◌, Bool, true, false, List, ltb, drop, Result, Ok, Err, Option, None, Some}
 use Rattle.rules.specs.Body.{Body, count_of, flag_digits, next_digits, rates_of, is_schedule, parse_body}
 use Rattle.rules.specs.Table.{need}
 use Rattle.rules.specs.declared.Cause.{Cause}
@@ -9,8 +8,6 @@ use Rattle.rules.specs.declared.Format.TheVariants.{F201, F202, F203, F301}
 use Rattle.layout.specs.Places.{schedule_digits, plant_digits, start_digits, plant_place, start_place, rates_place, checksum_digits}
 use Rattle.form.specs.Walk.{record_start}
 use Rattle.records.specs.declared.Places.{Places}
-use Rattle.records.specs.declared.Located.{Located}
-use Rattle.records.specs.declared.Located.TheVariants.{At, Refused}
 use Rattle.records.specs.declared.Field.{Field}
 use Rattle.records.specs.declared.Field.TheVariants.{Schedule, Plant, Start, Rates, Flag, Checksum, Next}
 
@@ -40,16 +37,16 @@ abbrev pub places_at : Format → List ℕ → ℕ → Places
 places_at f body i = places_of f (record_start f body i) (rates_of (drop (record_start f body i) body))
 
 abbrev pub parses : Option Body → Bool
-parses none = false
-parses (some b) = true
+parses None = false
+parses (Some b) = true
 
 -- 6: no record of the format has this index; 7: a format without records of rates; 9: the body does not parse for the format
-unfoldable pub locate : Format → List ℕ → ℕ → Located
+unfoldable pub locate : Format → List ℕ → ℕ → Result Places Cause
 locate f body i =
-    need (ltb i (count_of f)) (Refused Cause.Range)
-    (need (is_schedule f) (Refused Cause.Name)
-    (need (parses (parse_body f body)) (Refused Cause.Form)
-    (At (places_at f body i))))
+    need (ltb i (count_of f)) (Err Cause.Range)
+    (need (is_schedule f) (Err Cause.Name)
+    (need (parses (parse_body f body)) (Err Cause.Form)
+    (Ok (places_at f body i))))
 
 -- the place and the length of a field
 abbrev pub from : Field → Places → ℕ

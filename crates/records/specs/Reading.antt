@@ -1,7 +1,5 @@
 -- What a body's records say, field by field, and their rates end to end.
-use Rattle.std.specs.Prelude.{ℕ, List, []}
-use Rattle.std.proofs.Math.Option.{Option, none, some}
-use Rattle.std.proofs.Math.ListN.{get_elem?}
+use Rattle.std.specs.Prelude.{ℕ, List, [], Option, None, Some, slice_get}
 use Rattle.rules.specs.Body.{Record, Body, is_schedule, parse_body}
 use Rattle.rules.specs.File.{records_in}
 use Rattle.rules.specs.Writer.{Output, refuse, fitting}
@@ -23,22 +21,22 @@ field_of Checksum r = r.checksum
 field_of Next r = r.next
 
 abbrev pub field_in : Field → Option Record → List ℕ
-field_in x none = []
-field_in x (some r) = field_of x r
+field_in x None = []
+field_in x (Some r) = field_of x r
 
 -- the records of a body that parsed
 abbrev pub records_of : Option Body → List Record
-records_of none = []
-records_of (some b) = records_in b
+records_of None = []
+records_of (Some b) = records_in b
 
 -- record i of a body, the first one being 0; none where the body breaks the format's form, or there is no such record
 unfoldable pub record_in : Format → List ℕ → ℕ → Option Record
-record_in f body i = get_elem? (records_of (parse_body f body)) i
+record_in f body i = slice_get (records_of (parse_body f body)) i
 
 -- the rates of a body's records end to end, into so much room
 abbrev pub rates_from : ℕ → Option Body → Output
-rates_from room none = refuse Cause.Form
-rates_from room (some b) = fitting room (end_to_end (records_in b))
+rates_from room None = refuse Cause.Form
+rates_from room (Some b) = fitting room (end_to_end (records_in b))
 
 unfoldable pub rates_output : Format → List ℕ → ℕ → Output
 rates_output f body room = need (is_schedule f) (refuse Cause.Name) (rates_from room (parse_body f body))

@@ -14,16 +14,14 @@ pub(crate) fn put_rates(format: Format, s: &[u8], out: &mut [u8])
     requires { RatesRoom format s.now (length out.old) }
     ensures { out.new ≡ placed out.old 0 (end_to_end (records_from format (count_of format) s.now)) }
 {
-    let mut left = layout::record_count(format);
     let mut place = 0;
     let mut t = s;
-    while 0 < left {
+    for _ in 0..layout::record_count(format) {
         let count = layout::rate_count(t) as usize;
         let end = RATES + count;
         digits::put(out, place, &t[RATES..end]);
         place += count;
         let next = end + layout::tail_digits(format);
         t = &t[next..];
-        left -= 1;
     }
 }

@@ -10,7 +10,7 @@ ghost use Rattle.records.specs.Standing.{standing};
 ghost use Rattle.records.specs.Locating.{locate, Piece};
 ghost use Rattle.records.specs.Reading.{field_in, record_in, rates_output};
 
-use rules::{Cause, Format, Written};
+use rules::{Cause, Format};
 
 // Where in its body the fields of a record begin, and how many rates it has. A 201 or 202 has no flag and no next access: 0.
 #[derive(Clone, Copy)]
@@ -23,12 +23,6 @@ pub struct Places {
     pub flag: usize,
     pub checksum: usize,
     pub next: usize,
-}
-
-#[derive(Clone, Copy)]
-pub enum Located {
-    At(Places),
-    Refused(Cause),
 }
 
 // A field of a record.
@@ -62,19 +56,19 @@ fn stands(format: Format, body: &[u8]) -> bool
 
 // Where the fields of record `index` stand, the first one being 0. Causes: 6 for an index not below the format's record count,
 // 7 for a format that has no rates, 9 for a body that breaks its form.
-pub fn locate(format: Format, body: &[u8], index: usize) -> Located
+pub fn locate(format: Format, body: &[u8], index: usize) -> Result<Places, Cause>
     ensures { result ≡ locate format body.now index }
 {
     if layout::record_count(format) as usize <= index {
-        return Located::Refused(Cause::Range);
+        return Err(Cause::Range);
     }
     if !layout::is_schedule(format) {
-        return Located::Refused(Cause::Name);
+        return Err(Cause::Name);
     }
     if !stands(format, body) {
-        return Located::Refused(Cause::Form);
+        return Err(Cause::Form);
     }
-    Located::At(walk::places_in(format, body, index))
+    Ok(walk::places_in(format, body, index))
 }
 
 // The part that a field takes.
@@ -117,7 +111,7 @@ fn part_of(field: Field, format: Format, places: Places) -> Part
 pub fn field_part(field: Field, format: Format, body: &[u8], index: usize) -> &[u8]
     ensures { result.now ≡ field_in field (record_in format body.now index) }
 {
-    let Located::At(places) = locate(format, body, index) else {
+    let Ok(places) = locate(format, body, index) else {
         return &body[0..0];
     };
     let part = part_of(field, format, places);
@@ -128,22 +122,22 @@ pub fn field_part(field: Field, format: Format, body: &[u8], index: usize) -> &[
 
 // The rates of all records end to end in the buffer's first bytes, as the writer takes them, and how many they are. Causes: 7 for
 // a format that has no rates, 9 for a body that breaks its form, 15 for a buffer too short for them; the buffer is then as it was.
-pub fn copy_rates(format: Format, body: &[u8], out: &mut [u8]) -> Written
+pub fn copy_rates(format: Format, body: &[u8], out: &mut [u8]) -> Result<usize, Cause>
     ensures answer { result ≡ written_of (rates_output format body.now (length out.old)) }
     ensures buffer { out.new ≡ buffer_after (rates_output format body.now (length out.old)) out.old }
 {
     if !layout::is_schedule(format) {
-        return Written::Refused(Cause::Name);
+        return Err(Cause::Name);
     }
     if !stands(format, body) {
-        return Written::Refused(Cause::Form);
+        return Err(Cause::Form);
     }
     let s = &body[layout::RECORDS..];
     let length = s.len() - layout::fixed_bytes(format);
     let room = out.len();
     if room < length {
-        return Written::Refused(Cause::Buffer);
+        return Err(Cause::Buffer);
     }
     copying::put_rates(format, s, out);
-    Written::Length(length)
+    Ok(length)
 }

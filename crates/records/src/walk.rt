@@ -44,10 +44,8 @@ pub(crate) fn places_in(format: Format, body: &[u8], index: usize) -> Places
     ensures { result ≡ places_at format body.now index }
 {
     let mut at = layout::RECORDS;
-    let mut k = 0;
-    while k < index {
-        at = at + layout::record_size(format, &body[at..]);
-        k += 1;
+    for _ in 0..index {
+        at += layout::record_size(format, &body[at..]);
     }
     let n = layout::rate_count(&body[at..]) as usize;
     places_of(format, at, n)

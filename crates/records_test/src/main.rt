@@ -1,8 +1,9 @@
 // Takes apart the body of 01's example 10 and a 201 of example 3's months, and writes each again: whether fields and bytes are as they were.
 #![tactic(auto)]
 
+use plan::Fields;
 use records::Field;
-use rules::{Format, Written};
+use rules::{Cause, Format};
 
 // The rates of 13 months of 31 days.
 const MOST_RATES: usize = 13 * rules::BLOCK_LENGTH;
@@ -13,30 +14,17 @@ const PLANT: [u8; 26] =
 
 const SCHEDULE: [u8; 10] = *b"\x02\x06\x00\x03\x02\x07\x00\x00\x00\x01";
 
-// Writes text; a write that fails changes nothing of how the program ends.
-fn show(rt: &impl Print, text: &[u8]) {
-    let _ = rt.write_all(text);
-}
-
-fn told(rt: &impl Print, what: &[u8], same: bool) {
-    show(rt, what);
-    if same {
-        show(rt, b": as it was\n");
-    } else {
-        show(rt, b": not as it was\n");
-    }
+// A line of what is as it was, or is not; a write that fails changes nothing of how the program ends.
+fn told(rt: &impl Print, what: &str, same: bool) {
+    let not = if same { "" } else { "not " };
+    let _ = println!(rt; "{what}: {not}as it was");
 }
 
 // Whether `out` begins with the bytes of `body`, and they are as many as were written.
-fn begins(written: Written, out: &[u8], body: &[u8]) -> bool {
+fn begins(written: Result<usize, Cause>, out: &[u8], body: &[u8]) -> bool {
     match written {
-        Written::Length(n) => {
-            if out.len() < n {
-                return false;
-            }
-            digits::same(&out[0..n], body)
-        }
-        Written::Refused(_) => false,
+        Ok(n) if n <= out.len() => digits::same(&out[..n], body),
+        _ => false,
     }
 }
 
@@ -44,31 +32,29 @@ fn begins(written: Written, out: &[u8], body: &[u8]) -> bool {
 fn is_itself(format: Format, number: u32, flag: u32, body: &[u8]) -> bool {
     let mut rates = [0u8; MOST_RATES];
     let mut out = [0u8; 20480];
-    match records::copy_rates(format, body, &mut rates) {
-        Written::Length(n) => {
-            if MOST_RATES < n {
-                return false;
-            }
-            let written = writer::write_body(
-                number,
-                records::field_part(Field::Plant, format, body, 0),
-                records::field_part(Field::Schedule, format, body, 0),
-                records::field_part(Field::Start, format, body, 0),
-                records::field_part(Field::Next, format, body, 0),
-                &rates[0..n],
-                flag,
-                &mut out,
-            );
-            begins(written, &out, body)
-        }
-        Written::Refused(_) => false,
+    let Ok(n) = records::copy_rates(format, body, &mut rates) else {
+        return false;
+    };
+    if MOST_RATES < n {
+        return false;
     }
+    let fields = Fields {
+        format: number,
+        plant: records::field_part(Field::Plant, format, body, 0),
+        schedule: records::field_part(Field::Schedule, format, body, 0),
+        start: records::field_part(Field::Start, format, body, 0),
+        next: records::field_part(Field::Next, format, body, 0),
+        rates: &rates[0..n],
+        flag,
+    };
+    let written = writer::write_body(fields, &mut out);
+    begins(written, &out, body)
 }
 
 // Whether a field of record `index` has these bytes.
 fn compare(
     rt: &impl Print,
-    what: &[u8],
+    what: &str,
     field: Field,
     format: Format,
     body: &[u8],
@@ -91,31 +77,31 @@ fn update(rt: &impl Print) {
     let format = Format::F203;
     compare(
         rt,
-        b"schedule ID",
+        "schedule ID",
         Field::Schedule,
         format,
         body,
         0,
         &SCHEDULE,
     );
-    compare(rt, b"plant ID", Field::Plant, format, body, 0, &PLANT);
-    compare(rt, b"start", Field::Start, format, body, 0, start);
-    compare(rt, b"rates", Field::Rates, format, body, 0, b"\x64\x28\x1C");
-    compare(rt, b"flag", Field::Flag, format, body, 0, b"\x02");
+    compare(rt, "plant ID", Field::Plant, format, body, 0, &PLANT);
+    compare(rt, "start", Field::Start, format, body, 0, start);
+    compare(rt, "rates", Field::Rates, format, body, 0, b"\x64\x28\x1C");
+    compare(rt, "flag", Field::Flag, format, body, 0, b"\x02");
     compare(
         rt,
-        b"checksum",
+        "checksum",
         Field::Checksum,
         format,
         body,
         0,
         b"\x01\x08",
     );
-    compare(rt, b"next access", Field::Next, format, body, 0, next);
-    told(rt, b"body of 203", is_itself(format, 203, 2, body));
+    compare(rt, "next access", Field::Next, format, body, 0, next);
+    told(rt, "body of 203", is_itself(format, 203, 2, body));
     told(
         rt,
-        b"body of 203 with another flag",
+        "body of 203 with another flag",
         is_itself(format, 203, 3, body),
     );
 }
@@ -126,16 +112,22 @@ fn year(rt: &impl Print) {
     let last = b"\x02\x00\x02\x07\x00\x04\x00\x01\x00\x00\x00\x00";
     let rates = [55u8; 18960];
     let mut body = [0u8; 19681];
-    let written = writer::write_body(201, &PLANT, &SCHEDULE, start, b"", &rates, 0, &mut body);
-    match written {
-        Written::Length(n) => told(rt, b"length of 201", n == 19681),
-        Written::Refused(_) => told(rt, b"length of 201", false),
-    }
+    let fields = Fields {
+        format: 201,
+        plant: &PLANT,
+        schedule: &SCHEDULE,
+        start,
+        next: b"",
+        rates: &rates,
+        flag: 0,
+    };
+    let written = writer::write_body(fields, &mut body);
+    told(rt, "length of 201", matches!(written, Ok(19681)));
     let format = Format::F201;
-    compare(rt, b"last start", Field::Start, format, &body, 12, last);
+    compare(rt, "last start", Field::Start, format, &body, 12, last);
     compare(
         rt,
-        b"last schedule ID",
+        "last schedule ID",
         Field::Schedule,
         format,
         &body,
@@ -144,14 +136,14 @@ fn year(rt: &impl Print) {
     );
     compare(
         rt,
-        b"a fourteenth record",
+        "a fourteenth record",
         Field::Start,
         format,
         &body,
         13,
         last,
     );
-    told(rt, b"body of 201", is_itself(format, 201, 0, &body));
+    told(rt, "body of 201", is_itself(format, 201, 0, &body));
 }
 
 fn main(rt: HostRuntime) {

@@ -1,66 +1,19 @@
 // A line's call: carried out on the unit and the store, and answered.
-use crate::progress::Progress;
-use crate::stores::{large_buffer, most_of};
-use crate::{answers, shown, stores};
-use calls::Call;
+use crate::output::Output;
+use crate::progress::{NoCall, Progress};
+use crate::stores::large_buffer;
+use crate::{answers, shown};
+use calls::{Call, Reply};
 use plant::GivenSettings;
-use rules::Answer;
 use script::{Ask, Taken};
-use script_fields::Field;
+use script_words::word;
 use unit::Unit;
 
-// A call of the plain machine, through the unit's step.
-fn step(
-    was: Progress,
-    call: Call,
-    label: &[u8],
-    bytes: &[u8],
-    store: &mut [u8],
-    out: &mut [u8],
-) -> Progress {
-    let unit = was.unit;
-    let lent = most_of(was.lent, store);
-    let stepped = calls::step(unit, call, label, bytes, &mut store[..lent]);
-    let next = stepped.unit;
-    let reply = stepped.reply;
-    let progress = was.with_unit(next);
-    progress.written(answers::put_reply(reply, out, progress.at))
-}
-
-// 'Before an accepted install everything else answers `no unit`.'
-fn plain_step(was: Progress, call: Call, store: &mut [u8], out: &mut [u8]) -> Progress {
-    if was.installed {
-        step(was, call, b"", b"", store, out)
-    } else {
-        was.says(b"no unit", out)
-    }
-}
-
-// 'A refused install keeps the unit there was; an accepted one keeps the store.'
-fn install(was: Progress, id: &[u8], mac: &[u8], given: GivenSettings, out: &mut [u8]) -> Progress {
-    let made = Unit::install(id, mac, given);
-    let answer = made.answer;
-    let unit = made.unit;
-    let at = answers::put_answer(answer, out, was.at);
-    let progress = was.written(at);
-    match answer {
-        Answer::Accepted => progress.with_unit(unit),
-        Answer::Refused(_) => progress,
-    }
-}
-
-fn install_line(was: Progress, line: &[u8], given: GivenSettings, out: &mut [u8]) -> Progress {
-    let mut id = large_buffer();
-    let mut mac = large_buffer();
-    let Field::Length(long) = script_fields::digits_of(script_words::word(line, 1), &mut id) else {
-        return was.says(b"unknown", out);
-    };
-    let Field::Length(wide) = script_fields::bytes_of(script_words::word(line, 2), &mut mac) else {
-        return was.says(b"unknown", out);
-    };
-    let id_end = most_of(long, &id);
-    let mac_end = most_of(wide, &mac);
-    install(was, &id[..id_end], &mac[..mac_end], given, out)
+// The bytes that a word stands for, so many of those in the buffer, where it stands for any.
+fn field(room: &[u8], count: Option<usize>) -> Result<&[u8], NoCall> {
+    let count = count.ok_or(NoCall::Unknown)?;
+    let end = count.min(room.len());
+    Ok(&room[..end])
 }
 
 // The call that takes it.
@@ -71,92 +24,114 @@ fn call_of(taken: Taken) -> Call {
     }
 }
 
-// A file's name and body, or a response's boundary and bytes. One function reads both: its two buffers are the largest part of the stack.
-fn take_line(
-    was: Progress,
-    taken: Taken,
-    line: &[u8],
-    store: &mut [u8],
-    out: &mut [u8],
-) -> Progress {
-    let mut label = large_buffer();
-    let mut bytes = large_buffer();
-    let Field::Length(long) = script_fields::bytes_of(script_words::word(line, 1), &mut label)
-    else {
-        return was.says(b"unknown", out);
-    };
-    let Field::Length(wide) = script_fields::hex_of(script_words::word(line, 2), &mut bytes) else {
-        return was.says(b"unknown", out);
-    };
-    if was.installed {
-        let label_end = most_of(long, &label);
-        let bytes_end = most_of(wide, &bytes);
-        step(
-            was,
+impl Progress<'_> {
+    // 'Before an accepted install everything else answers `no unit`.'
+    fn installed(&self) -> Result<Unit, NoCall> {
+        self.unit.ok_or(NoCall::NoUnit)
+    }
+
+    // A call of the plain machine, through the unit's step.
+    fn step(
+        &mut self,
+        call: Call,
+        label: &[u8],
+        bytes: &[u8],
+        out: &mut Output,
+    ) -> Result<(), NoCall> {
+        let unit = self.installed()?;
+        let lent = self.lent.min(self.store.len());
+        let stepped = calls::step(unit, call, label, bytes, &mut self.store[..lent]);
+        self.unit = Some(stepped.unit);
+        answers::put_reply(out, stepped.reply);
+        Ok(())
+    }
+
+    // 'A refused install keeps the unit there was; an accepted one keeps the store.'
+    fn install(
+        &mut self,
+        line: &[u8],
+        given: GivenSettings,
+        out: &mut Output,
+    ) -> Result<(), NoCall> {
+        let mut id = large_buffer();
+        let mut mac = large_buffer();
+        let long = script_fields::digits_of(word(line, 1), &mut id);
+        let wide = script_fields::bytes_of(word(line, 2), &mut mac);
+        let made = Unit::install(field(&id, long)?, field(&mac, wide)?, given);
+        if made.answer.is_ok() {
+            self.unit = Some(made.unit);
+        }
+        answers::put_reply(out, Reply::Done(made.answer));
+        Ok(())
+    }
+
+    // A file's name and body, or a response's boundary and bytes. One function reads both: its two buffers are the largest part of the stack.
+    fn take(&mut self, taken: Taken, line: &[u8], out: &mut Output) -> Result<(), NoCall> {
+        let mut label = large_buffer();
+        let mut bytes = large_buffer();
+        let long = script_fields::bytes_of(word(line, 1), &mut label);
+        let wide = script_fields::hex_of(word(line, 2), &mut bytes);
+        self.step(
             call_of(taken),
-            &label[..label_end],
-            &bytes[..bytes_end],
-            store,
+            field(&label, long)?,
+            field(&bytes, wide)?,
             out,
         )
-    } else {
-        was.says(b"no unit", out)
     }
-}
 
-fn request_line(was: Progress, line: &[u8], out: &mut [u8]) -> Progress {
-    let mut segment = large_buffer();
-    let Field::Length(long) = script_fields::bytes_of(script_words::word(line, 1), &mut segment)
-    else {
-        return was.says(b"unknown", out);
-    };
-    if was.installed {
-        let unit = was.unit;
-        let end = most_of(long, &segment);
-        was.written(answers::put_request(unit, &segment[..end], out, was.at))
-    } else {
-        was.says(b"no unit", out)
+    fn request(&self, line: &[u8], out: &mut Output) -> Result<(), NoCall> {
+        let mut segment = large_buffer();
+        let long = script_fields::bytes_of(word(line, 1), &mut segment);
+        let segment = field(&segment, long)?;
+        let unit = self.installed()?;
+        answers::put_request(out, unit, segment);
+        Ok(())
     }
-}
 
-fn show_state(was: Progress, out: &mut [u8]) -> Progress {
-    if was.installed {
-        let unit = was.unit;
-        was.written(shown::put_state(unit, out, was.at))
-    } else {
-        was.says(b"no unit", out)
+    fn show_state(&self, out: &mut Output) -> Result<(), NoCall> {
+        let unit = self.installed()?;
+        shown::put_state(out, unit);
+        Ok(())
     }
-}
 
-fn show_block(was: Progress, month: u64, store: &[u8], out: &mut [u8]) -> Progress {
-    if was.installed {
-        let unit = was.unit;
-        let pool = unit.pool;
-        let lent = most_of(was.lent, store);
-        was.written(shown::put_block(pool, month, &store[..lent], out, was.at))
-    } else {
-        was.says(b"no unit", out)
+    fn show_block(&self, month: u64, out: &mut Output) -> Result<(), NoCall> {
+        let unit = self.installed()?;
+        let lent = self.lent.min(self.store.len());
+        shown::put_block(out, unit.pool, month, &self.store[..lent]);
+        Ok(())
     }
-}
 
-// The progress after a line.
-pub(crate) fn answer(was: Progress, line: &[u8], store: &mut [u8], out: &mut [u8]) -> Progress {
-    match script::ask_of(line) {
-        Ask::Nothing => was,
-        Ask::Unknown => was.says(b"unknown", out),
-        Ask::Install(given) => install_line(was, line, given, out),
-        Ask::Store(length, byte) => stores::lend(was, length, byte, store, out),
-        Ask::Byte(index, value) => stores::spoil(was, index, value, store, out),
-        Ask::Tick(t) => plain_step(was, Call::Tick(t), store, out),
-        Ask::Lost => plain_step(was, Call::ClockLost, store, out),
-        Ask::Take(taken) => take_line(was, taken, line, store, out),
-        Ask::Failure(kind, status) => plain_step(was, Call::Failure(kind, status), store, out),
-        Ask::Ceiling(slot) => plain_step(was, Call::Ceiling(slot), store, out),
-        Ask::Due => plain_step(was, Call::Due, store, out),
-        Ask::Command => plain_step(was, Call::Command, store, out),
-        Ask::Free => plain_step(was, Call::FreeBlocks, store, out),
-        Ask::Request => request_line(was, line, out),
-        Ask::State => show_state(was, out),
-        Ask::Block(month) => show_block(was, month, store, out),
+    // What a line asks for; a silent line, nothing.
+    fn carry_out(&mut self, line: &[u8], out: &mut Output) -> Result<(), NoCall> {
+        match script::ask_of(line) {
+            Ask::Nothing => Ok(()),
+            Ask::Unknown => Err(NoCall::Unknown),
+            Ask::Install(given) => self.install(line, given, out),
+            Ask::Store(length, byte) => {
+                self.lend(length, byte, out);
+                Ok(())
+            }
+            Ask::Byte(index, value) => self.spoil(index, value, out),
+            Ask::Tick(t) => self.step(Call::Tick(t), b"", b"", out),
+            Ask::Lost => self.step(Call::ClockLost, b"", b"", out),
+            Ask::Take(taken) => self.take(taken, line, out),
+            Ask::Failure(kind, status) => self.step(Call::Failure(kind, status), b"", b"", out),
+            Ask::Ceiling(slot) => self.step(Call::Ceiling(slot), b"", b"", out),
+            Ask::Due => self.step(Call::Due, b"", b"", out),
+            Ask::Command => self.step(Call::Command, b"", b"", out),
+            Ask::Free => self.step(Call::FreeBlocks, b"", b"", out),
+            Ask::Request => self.request(line, out),
+            Ask::State => self.show_state(out),
+            Ask::Block(month) => self.show_block(month, out),
+        }
+    }
+
+    // A line, answered; a silent one is not.
+    pub(crate) fn answer(&mut self, line: &[u8], out: &mut Output) {
+        match self.carry_out(line, out) {
+            Ok(()) => {}
+            Err(NoCall::Unknown) => out.line(b"unknown"),
+            Err(NoCall::NoUnit) => out.line(b"no unit"),
+        }
     }
 }

@@ -1,67 +1,29 @@
-// What stays from one line to the next: the unit, the store's length, and how much of the output is written.
-use plant::GivenSettings;
+// What stays from one line to the next.
 use unit::Unit;
 
-// The unit, whether one was installed, how many bytes of the store are lent, and the place in the output behind the last answer.
+// Why a line is answered without a call.
 #[derive(Clone, Copy)]
-pub(crate) struct Progress {
-    pub unit: Unit,
-    pub installed: bool,
-    pub lent: usize,
-    pub at: usize,
+pub(crate) enum NoCall {
+    Unknown,
+    NoUnit,
 }
 
-impl Progress {
-    // 'before `store` the store is empty'; the unit is one that is not sound, since no values were given.
-    pub(crate) fn new() -> Progress {
-        let given = GivenSettings {
-            panel: 0,
-            inverter: 0,
-            minutes: 0,
-        };
-        let none = Unit::install(b"", b"", given);
-        let unit = none.unit;
+// The unit, where one was installed, and the store, of which so many bytes are lent. The output is no field: tried, but the borrow check has no
+// rule for a part of the store, behind two `&mut`s, lent beside another field.
+#[derive(Drop)]
+pub(crate) struct Progress<'a> {
+    pub unit: Option<Unit>,
+    pub store: &'a mut [u8],
+    pub lent: usize,
+}
+
+impl<'a> Progress<'a> {
+    // 'before `store` the store is empty'.
+    pub(crate) fn new(store: &'a mut [u8]) -> Progress<'a> {
         Progress {
-            unit,
-            installed: false,
+            unit: None,
+            store,
             lent: 0,
-            at: 0,
-        }
-    }
-
-    // With this much in the output.
-    pub(crate) fn written(self, at: usize) -> Progress {
-        let unit = self.unit;
-        Progress {
-            unit,
-            installed: self.installed,
-            lent: self.lent,
-            at,
-        }
-    }
-
-    // A line goes out.
-    pub(crate) fn says(self, text: &[u8], out: &mut [u8]) -> Progress {
-        let at = script_fields::put_text(out, self.at, text);
-        self.written(script_fields::put_text(out, at, b"\n"))
-    }
-
-    pub(crate) fn with_unit(self, unit: Unit) -> Progress {
-        Progress {
-            unit,
-            installed: true,
-            lent: self.lent,
-            at: self.at,
-        }
-    }
-
-    pub(crate) fn with_store(self, lent: usize) -> Progress {
-        let unit = self.unit;
-        Progress {
-            unit,
-            installed: self.installed,
-            lent,
-            at: self.at,
         }
     }
 }

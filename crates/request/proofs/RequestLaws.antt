@@ -1,31 +1,25 @@
 -- Laws of bytes written one after another into a buffer, and of the refusals in their order.
+use Rattle.std.specs.Prelude.{Ok}
 use Prim.Native.Nat.{ℕ, zero, suc, ◌+◌, ◌≤◌, ◌<◌}
 use mathlib.Core.Path.{◌≡◌, refl, sym, ap, ◌∙◌}
 use mathlib.Core.Bool.{true, false}
 use mathlib.Core.List.{List, [], ◌∷◌, ◌++◌, append_assoc}
-use native.Mathlib.Numerals.{add-one}
 use native.Mathlib.Omega.{arith}
 use lib.Dec.{leb, eqb, lit≤}
-use lib.ListN.{length, get_or, set, drop, replicate, length-map, length-append, get_or-map}
-use lib.Seq.{paste, paste-suc, take_at, take-length, drop-append-add, drop-drop}
+use lib.ListN.{length, get_or, drop, replicate, length-map, length-append, get_or-map}
+use lib.Seq.{paste, take_at, take-length, drop-append-add, drop-drop}
 use borrow.Author.Tests.{leb-true, eqb-true, le-leb, lt-leb}
 use Rattle.rules.specs.Digits.{all_at_most, all_digits, digits, to_ascii}
 use Rattle.rules.specs.Plant.{plant_id, last_digit, check_digit, mac_address, all_hex}
 use Rattle.rules.specs.Name.{any_segment}
 use Rattle.rules.specs.Writer.{Output, refuse, bytes, written_of, buffer_after}
 use Rattle.rules.specs.declared.Cause.{Cause}
-use Rattle.rules.specs.declared.Written.{Written}
 use Rattle.name.proofs.Laws.{segment-length}
 use Rattle.rules.specs.Request.{request, request_bytes, plant_parameter, mac_parameter, segment_parameter}
 use Rattle.laws.proofs.Tests.{both}
 use Rattle.request.specs.Parts.{Parts}
 
--- ---- a loop that writes bytes b into d from place k on
-
-module _ (d b : List ℕ) (k i : ℕ) (z : ℕ) where
-  -- one byte more is written
-  pub put_step : {out : List ℕ} {x : ℕ} → out ≡ paste d k b i → x ≡ get_or b i z → k + i < length d → i < length b → set out (k + i) x ≡ paste d k b (i + 1)
-  put_step e f h l = rw (e, f, add-one i) (paste-suc d k b i z h l)
+-- ---- digits in ASCII
 
 -- each of some digits is at most 9
 pub digit-most : (s : List ℕ) (i : ℕ) → all_digits s ≡ true → i < length s → get_or s i 0 ≤ 9
@@ -141,7 +135,7 @@ pub answered : {o o' : Output} (d : List ℕ) → o ≡ o' → (written_of o' �
 answered d e = (ap written_of (sym e), ap (λ (x : Output). buffer_after x d) (sym e))
 
 pub finished : {o : Output} {b out : List ℕ} (d : List ℕ) → o ≡ bytes b → length b ≡ 84 → out ≡ b ++ drop 84 d
-    → (Written.Length 84 ≡ written_of o) × (out ≡ buffer_after o d)
+    → (Ok 84 ≡ written_of o) × (out ≡ buffer_after o d)
 finished {b = b} d e l w =
     let seen = answered d e in
-    (ap Written.Length (sym l) ∙ seen.0, w ∙ ap (λ (k : ℕ). b ++ drop k d) (sym l) ∙ seen.1)
+    (ap Ok (sym l) ∙ seen.0, w ∙ ap (λ (k : ℕ). b ++ drop k d) (sym l) ∙ seen.1)

@@ -8,7 +8,7 @@ ghost use Rattle.rules.specs.Request.{request, request_bytes};
 ghost use Rattle.rules.specs.Writer.{written_of, buffer_after};
 ghost use Rattle.request.specs.Parts.{Parts};
 
-use rules::{Cause, Written};
+use rules::Cause;
 
 // '84 bytes power_plant_id=ID&mac_address=MAC&schedule_kbn=segment'.
 const PLANT_PARAMETER: [u8; 15] = *b"power_plant_id=";
@@ -35,11 +35,7 @@ fn put(out: &mut [u8], at: usize, bytes: &[u8])
     requires { at + length bytes.now ≤ length out.old }
     ensures { out.new ≡ paste out.old at bytes.now (length bytes.now) }
 {
-    let mut i = 0;
-    while i < bytes.len() {
-        out[at + i] = bytes[i];
-        i += 1;
-    }
+    out[at..at + bytes.len()].copy_from_slice(bytes);
 }
 
 // Writes digits in ASCII from a place on.
@@ -47,10 +43,8 @@ fn put_digits(out: &mut [u8], at: usize, digits: &[u8])
     requires { (at + length digits.now ≤ length out.old) × (all_digits digits.now ≡ true) }
     ensures { out.new ≡ paste out.old at (to_ascii digits.now) (length digits.now) }
 {
-    let mut i = 0;
-    while i < digits.len() {
-        out[at + i] = digits[i] + b'0';
-        i += 1;
+    for (i, digit) in digits.iter().enumerate() {
+        out[at + i] = *digit + b'0';
     }
 }
 
@@ -68,23 +62,23 @@ fn fill(id: &[u8], mac: &[u8], segment: &[u8], out: &mut [u8])
 }
 
 // Writes a request and says how long it is, or refuses with cause 1, 2, 7 or 15 and writes nothing.
-pub fn request(id: &[u8], mac: &[u8], segment: &[u8], out: &mut [u8]) -> Written
+pub fn request(id: &[u8], mac: &[u8], segment: &[u8], out: &mut [u8]) -> Result<usize, Cause>
     ensures answer { result ≡ written_of (request id.now mac.now segment.now (length out.old)) }
     ensures buffer { out.new ≡ buffer_after (request id.now mac.now segment.now (length out.old)) out.old }
 {
     if !plant::is_plant_id(id) {
-        return Written::Refused(Cause::PlantId);
+        return Err(Cause::PlantId);
     }
     if !plant::is_mac_address(mac) {
-        return Written::Refused(Cause::Setting);
+        return Err(Cause::Setting);
     }
     if !name::is_segment(segment) {
-        return Written::Refused(Cause::Name);
+        return Err(Cause::Name);
     }
     let length = REQUEST_LENGTH;
     if out.len() < length {
-        return Written::Refused(Cause::Buffer);
+        return Err(Cause::Buffer);
     }
     fill(id, mac, segment, out);
-    Written::Length(REQUEST_LENGTH)
+    Ok(REQUEST_LENGTH)
 }

@@ -1,9 +1,9 @@
 -- Laws of the boundary and of the bytes that it stands in: the first line, and what closes the file.
+use Rattle.std.specs.Prelude.{Option, None, Some, is_some}
 use Prim.Native.Nat.{ℕ, ◌+◌, ◌<◌, ◌≤◌}
 use mathlib.Core.Path.{◌≡◌, ◌∙◌, refl, sym, ap}
 use mathlib.Core.Bool.{Bool, true, false, cond, ◌&&◌, and_assoc, and-true, and-false}
 use mathlib.Core.List.{List, [], ◌∷◌, ◌++◌}
-use mathlib.Core.Option.{Option, none, some}
 use native.Mathlib.Omega.{arith}
 use borrow.Author.Tests.{le-leb, lt-leb}
 use lib.Dec.{leb}
@@ -13,7 +13,6 @@ use Rattle.rules.specs.Digits.{same_bytes}
 use Rattle.rules.specs.Response.{letter_or_digit, all_letters, lawful_boundary, line_end, hyphens, begins, opening, closing, end_in}
 use Rattle.digits.proofs.Scan.{all-step, all_end, same_length}
 use Rattle.about_responses.proofs.Begins.{begins-parts}
-use Rattle.response.specs.Found.{is_end}
 
 -- ---- a boundary
 
@@ -70,18 +69,18 @@ module _ (b s : List ℕ) where
   both_ends : length (closing b ++ line_end) ≡ length b + 8
   both_ends = omega (arith, length-append (closing b) line_end, closing-length b)
 
-  pub end_short : length s ≡ length b + 6 → begins (closing b) s ≡ is_end (end_in b s)
+  pub end_short : length s ≡ length b + 6 → begins (closing b) s ≡ is_some (end_in b s)
   unfolding end_in
   end_short h =
       let e : same_bytes s (closing b ++ line_end) ≡ false = same_length s (closing b ++ line_end) (λ g. omega (arith, g, h, both_ends)) in
       let f : same_bytes s (closing b) ≡ begins (closing b) s = same-begins (closing b) s (omega (arith, h, closing-length b)) in
       rw (e, f) (go (begins (closing b) s))
     where
-      go : (t : Bool) → t ≡ is_end (cond {A = Option Bool} t (some false) none)
+      go : (t : Bool) → t ≡ is_some (cond {A = Option Bool} t (Some false) None)
       go true = refl
       go false = refl
 
-  pub end-long : length s ≡ length b + 8 → (begins (closing b) s && begins line_end (drop (length b + 6) s)) ≡ is_end (end_in b s)
+  pub end-long : length s ≡ length b + 8 → (begins (closing b) s && begins line_end (drop (length b + 6) s)) ≡ is_some (end_in b s)
   unfolding end_in
   end-long h =
       let e : same_bytes s (closing b) ≡ false = same_length s (closing b) (λ g. omega (arith, g, h, closing-length b)) in
@@ -90,11 +89,11 @@ module _ (b s : List ℕ) where
       begins-parts (closing b) line_end s ∙ ap (λ (k : ℕ). begins (closing b) s && begins line_end (drop k s)) (closing-length b) in
       rw (e, f, g) (go (begins (closing b) s && begins line_end (drop (length b + 6) s)))
     where
-      go : (t : Bool) → t ≡ is_end (cond {A = Option Bool} t (some true) none)
+      go : (t : Bool) → t ≡ is_some (cond {A = Option Bool} t (Some true) None)
       go true = refl
       go false = refl
 
-  pub end-other : (length s ≡ length b + 6 → ⊥) → (length s ≡ length b + 8 → ⊥) → false ≡ is_end (end_in b s)
+  pub end-other : (length s ≡ length b + 6 → ⊥) → (length s ≡ length b + 8 → ⊥) → false ≡ is_some (end_in b s)
   unfolding end_in
   end-other h g =
       let e : same_bytes s (closing b) ≡ false = same_length s (closing b) (λ k. h (omega (arith, k, closing-length b))) in

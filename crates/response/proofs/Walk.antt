@@ -1,9 +1,9 @@
 -- Laws of the walk over the header lines: a line more, and what the marks say at the headers' end.
+use Rattle.std.specs.Prelude.{Option, None, Some}
 use Prim.Native.Nat.{ℕ, ◌+◌, ◌-◌, ◌<◌, ◌≤◌}
 use mathlib.Core.Path.{◌≡◌, ◌∙◌, refl, sym, ap, subst}
 use mathlib.Core.Bool.{Bool, true, false, cond, and-false}
 use mathlib.Core.List.{List, [], ◌∷◌, ◌++◌, append_assoc, append-nil}
-use mathlib.Core.Option.{Option, none, some}
 use native.Mathlib.Omega.{arith}
 use lib.Dec.{leb}
 use lib.ListN.{length, take, drop, length-append}
@@ -53,23 +53,20 @@ module _ (s : List ℕ) (at e : ℕ) (later : at ≤ e) (within : e ≤ length s
 pub mark-is : {t u : Bool} {m k : Mark} (at e : ℕ) → t ≡ u → m ≡ k → marked_by u k at e ≡ marked_by t m at e
 mark-is at e p q = rw (p, q) refl
 
-pub both_is : {m k n j : Mark} (next : ℕ) → m ≡ k → n ≡ j → both_of k j next ≡ both_of m n next
-both_is next p q = rw (p, q) refl
-
 -- ---- a line more
 
-headers-line : (s l rest : List ℕ) → line_of s ≡ some (l, rest) → 0 < length l → headers_in s ≡ before_line l (headers_in rest)
+headers-line : (s l rest : List ℕ) → line_of s ≡ Some (l, rest) → 0 < length l → headers_in s ≡ before_line l (headers_in rest)
 headers-line s [] rest e h = absurd (omega arith)
 headers-line s (x ∷ l) rest e h = headers-next s ∙ ap (headers_then headers_in) e
 
 after-nil : (o : Option (List (List ℕ) × List ℕ)) → o ≡ after_lines [] o
-after-nil none = refl
-after-nil (some q) = refl
+after-nil None = refl
+after-nil (Some q) = refl
 
 after_line : (ls : List (List ℕ)) (l : List ℕ) (o : Option (List (List ℕ) × List ℕ)) → after_lines ls (before_line l o) ≡ after_lines (ls ++ (l ∷ [])) o
-after_line ls l none = refl
-after_line ls l (some q) =
-    ap {B = Option (List (List ℕ) × List ℕ)} (λ (k : List (List ℕ)). some (k, q.1)) (sym (append_assoc ls (l ∷ []) q.0))
+after_line ls l None = refl
+after_line ls l (Some q) =
+    ap {B = Option (List (List ℕ) × List ℕ)} (λ (k : List (List ℕ)). Some (k, q.1)) (sym (append_assoc ls (l ∷ []) q.0))
 
 pub walk_starts : (s : List ℕ) (from : ℕ) → Walked s from from Never Never
 unfolding lines_with
@@ -95,31 +92,31 @@ module _ (s : List ℕ) (from place : ℕ) (m n : Mark) (w : Walked s from place
         names = subst (Marked s (lines_with content_disposition all)) (sym q) (marked_more s place e d.later z content_disposition n w.passed w.names);
       }
 
-  pub walk_cut : line_of (drop place s) ≡ none → (b : List ℕ) → headers_next b (headers_in (drop from s)) ≡ none
+  pub walk_cut : line_of (drop place s) ≡ None → (b : List ℕ) → headers_next b (headers_in (drop from s)) ≡ None
   walk_cut e b =
       ap (headers_next b) (w.read ∙ ap (after_lines w.passed) (headers-next (drop place s) ∙ ap (headers_then headers_in) e))
 
 -- ---- the headers' end
 
-many-length : (ls : List (List ℕ)) → 2 ≤ length ls → only_length ls ≡ none
+many-length : (ls : List (List ℕ)) → 2 ≤ length ls → only_length ls ≡ None
 many-length [] h = refl
 many-length (l ∷ []) h = absurd (omega arith)
 many-length (l ∷ k ∷ ls) h = refl
 
-many-name : (ls : List (List ℕ)) → 2 ≤ length ls → only_name ls ≡ none
+many-name : (ls : List (List ℕ)) → 2 ≤ length ls → only_name ls ≡ None
 many-name [] h = refl
 many-name (l ∷ []) h = absurd (omega arith)
 many-name (l ∷ k ∷ ls) h = refl
 
-pub file-nameless : (b : List ℕ) (ls : List (List ℕ)) (u : List ℕ) (o : Option ℕ) → given_name ls ≡ none → file_then b ls u o ≡ none
-file-nameless b ls u none h = refl
-file-nameless b ls u (some n) h = rw (h, and-false (leb n (length u))) refl
+pub file-nameless : (b : List ℕ) (ls : List (List ℕ)) (u : List ℕ) (o : Option ℕ) → given_name ls ≡ None → file_then b ls u o ≡ None
+file-nameless b ls u None h = refl
+file-nameless b ls u (Some n) h = rw (h, and-false (leb n (length u))) refl
 
-module _ (s : List ℕ) (from next : ℕ) (ls : List (List ℕ)) (read : headers_in (drop from s) ≡ some (ls, drop next s)) (rest : next ≤ length s) where
-  sizeless : given_length ls ≡ none → (b : List ℕ) → headers_next b (headers_in (drop from s)) ≡ none
+module _ (s : List ℕ) (from next : ℕ) (ls : List (List ℕ)) (read : headers_in (drop from s) ≡ Some (ls, drop next s)) (rest : next ≤ length s) where
+  sizeless : given_length ls ≡ None → (b : List ℕ) → headers_next b (headers_in (drop from s)) ≡ None
   sizeless e b = ap (headers_next b) read ∙ ap (file_then b ls (drop next s)) e
 
-  nameless : given_name ls ≡ none → (b : List ℕ) → headers_next b (headers_in (drop from s)) ≡ none
+  nameless : given_name ls ≡ None → (b : List ℕ) → headers_next b (headers_in (drop from s)) ≡ None
   nameless e b = ap (headers_next b) read ∙ file-nameless b ls (drop next s) (given_length ls) e
 
   both_read : (m n : Mark) → Marked s (lines_with content_length ls) m → Marked s (lines_with content_disposition ls) n
@@ -134,10 +131,10 @@ pub walk_over : (s : List ℕ) (from place : ℕ) (m n : Mark) → Walked s from
     → HeadersRead s from (both_of m n (e + 2))
 walk_over s from place m n w e d i =
     let z : e - place ≡ 0 = omega arith in
-    let f : line_of (drop place s) ≡ some ([], drop (e + 2) s) =
-    d.line ∙ ap {B = Option (List ℕ × List ℕ)} (λ (k : ℕ). some (take k (drop place s), drop (e + 2) s)) z in
-    let read : headers_in (drop from s) ≡ some (w.passed, drop (e + 2) s) =
+    let f : line_of (drop place s) ≡ Some ([], drop (e + 2) s) =
+    d.line ∙ ap {B = Option (List ℕ × List ℕ)} (λ (k : ℕ). Some (take k (drop place s), drop (e + 2) s)) z in
+    let read : headers_in (drop from s) ≡ Some (w.passed, drop (e + 2) s) =
     w.read
     ∙ ap (after_lines w.passed) (headers-next (drop place s) ∙ ap (headers_then headers_in) f)
-    ∙ ap {B = Option (List (List ℕ) × List ℕ)} (λ (k : List (List ℕ)). some (k, drop (e + 2) s)) (append-nil w.passed) in
+    ∙ ap {B = Option (List (List ℕ) × List ℕ)} (λ (k : List (List ℕ)). Some (k, drop (e + 2) s)) (append-nil w.passed) in
     both_read s from (e + 2) w.passed read d.within m n w.sizes w.names

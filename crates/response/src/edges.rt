@@ -1,7 +1,6 @@
 // The boundary, and the bytes that it stands in: the first line, and what closes the file.
-ghost use Rattle.std.specs.Prelude.{◌≡◌, ◌≤◌, ◌+◌, length};
+ghost use Rattle.std.specs.Prelude.{◌≡◌, ◌≤◌, ◌+◌, length, is_some};
 ghost use Rattle.rules.specs.Response.{letter_or_digit, lawful_boundary, begins, opening, closing, end_in};
-ghost use Rattle.response.specs.Found.{is_end};
 
 use crate::lines::{LINE_END, LINE_END_LENGTH, begins};
 
@@ -36,10 +35,8 @@ pub(crate) fn lawful_boundary(b: &[u8]) -> bool
         return false;
     }
     let mut all = true;
-    let mut i = 0;
-    while i < b.len() {
-        all = all & letter_or_digit(b[i]);
-        i += 1;
+    for x in b {
+        all = all & letter_or_digit(*x);
     }
     (1 <= b.len()) & all
 }
@@ -66,7 +63,7 @@ fn closing_begins(s: &[u8], b: &[u8]) -> bool
 
 // Whether `s` is what closes a file, with at most one more end of a line.
 pub(crate) fn closed(s: &[u8], b: &[u8]) -> bool
-    ensures { result ≡ is_end (end_in b.now s.now) }
+    ensures { result ≡ is_some (end_in b.now s.now) }
 {
     let n = b.len() + CLOSING;
     if s.len() == n {

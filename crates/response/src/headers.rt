@@ -4,7 +4,7 @@ ghost use Rattle.std.specs.Prelude.{◌≡◌, ◌≤◌, length};
 ghost use Rattle.rules.specs.Response.{begins};
 ghost use Rattle.response.specs.Marks.{marked_by, both_of, HeadersRead};
 
-use crate::lines::{LINE_END_LENGTH, Line, begins, line_end};
+use crate::lines::{LINE_END_LENGTH, begins, line_end};
 
 // Where the digits of a length begin in its line.
 pub(crate) const SIZE_FROM: usize = 16;
@@ -21,17 +21,14 @@ pub(crate) enum Mark {
     Twice,
 }
 
-// The places of both lines, and the place after the headers; or headers that break the form.
+// The places of both lines, and the place after the headers.
 #[derive(Clone, Copy)]
-pub(crate) enum Headers {
-    Both {
-        size_at: usize,
-        size_end: usize,
-        name_at: usize,
-        name_end: usize,
-        next: usize,
-    },
-    Broken,
+pub(crate) struct Headers {
+    pub(crate) size_at: usize,
+    pub(crate) size_end: usize,
+    pub(crate) name_at: usize,
+    pub(crate) name_end: usize,
+    pub(crate) next: usize,
 }
 
 // The mark after one more line, which stands from `at` to `end`.
@@ -49,41 +46,38 @@ fn marked(before: Mark, p: &[u8], line: &[u8], at: usize, end: usize) -> Mark
 }
 
 // Both lines, where each is there once.
-fn both(size: Mark, name: Mark, next: usize) -> Headers
+fn both(size: Mark, name: Mark, next: usize) -> Option<Headers>
     ensures { result ≡ both_of size name next }
 {
-    match size {
-        Mark::Never => Headers::Broken,
-        Mark::Once { at, end } => match name {
-            Mark::Never => Headers::Broken,
+    match (size, name) {
+        (
+            Mark::Once { at, end },
             Mark::Once {
                 at: name_at,
                 end: name_end,
-            } => Headers::Both {
-                size_at: at,
-                size_end: end,
-                name_at,
-                name_end,
-                next,
             },
-            Mark::Twice => Headers::Broken,
-        },
-        Mark::Twice => Headers::Broken,
+        ) => Some(Headers {
+            size_at: at,
+            size_end: end,
+            name_at,
+            name_end,
+            next,
+        }),
+        _ => None,
     }
 }
 
-// The headers from the line at `from` on.
-pub(crate) fn read(s: &[u8], from: usize) -> Headers
+// The headers from the line at `from` on, where they keep the form.
+pub(crate) fn read(s: &[u8], from: usize) -> Option<Headers>
     requires { from ≤ length s.now }
     ensures { HeadersRead s.now from result }
 {
     let mut place = from;
     let mut size = Mark::Never;
     let mut name = Mark::Never;
+    // A loop: its lines are found one by one and no count of them is known, so that a `for` is no plainer.
     loop {
-        let Line::End(end) = line_end(s, place) else {
-            return Headers::Broken;
-        };
+        let end = line_end(s, place)?;
         if end == place {
             return both(size, name, end + LINE_END_LENGTH);
         }

@@ -8,13 +8,6 @@ pub(crate) const LINE_END_LENGTH: usize = 2;
 
 pub(crate) const LINE_END: [u8; LINE_END_LENGTH] = *b"\r\n";
 
-// The place of a line's end, or a line that has none.
-#[derive(Clone, Copy)]
-pub(crate) enum Line {
-    End(usize),
-    Open,
-}
-
 // Whether `s` begins with `p`.
 pub(crate) fn begins(s: &[u8], p: &[u8]) -> bool
     ensures { result ≡ begins p.now s.now }
@@ -33,16 +26,14 @@ fn pair(x: u8, y: u8) -> bool
 }
 
 // The end of the line at place `at`.
-pub(crate) fn line_end(s: &[u8], at: usize) -> Line
+pub(crate) fn line_end(s: &[u8], at: usize) -> Option<usize>
     requires { at ≤ length s.now }
     ensures { LineRead s.now at result }
 {
-    let mut i = at;
-    while i + 1 < s.len() {
+    for i in at..s.len().saturating_sub(1) {
         if pair(s[i], s[i + 1]) {
-            return Line::End(i);
+            return Some(i);
         }
-        i += 1;
     }
-    Line::Open
+    None
 }

@@ -1,6 +1,6 @@
 -- A file's body (01, Names and bodies): a 6-digit record count and the records, parsed and as bytes.
-use Rattle.std.specs.Prelude.{ℕ, zero, suc, ◌+◌, Bool, true, false, cond, ◌&&◌, List, [], ◌∷◌, ◌++◌, length, get_or, drop, leb, eqb}
-use Rattle.std.proofs.Math.Option.{Option, none, some, map}
+use Rattle.std.specs.Prelude.{ℕ, zero, suc, ◌+◌, Bool, true, false, cond, ◌&&◌, List, [], ◌∷◌, ◌++◌, length, get_or, drop, leb, eqb, Option, None, Some}
+use Rattle.std.specs.Option.{option_map}
 use Rattle.rules.specs.Digits.{part, all_digits, digits, value, decimal}
 use Rattle.rules.specs.declared.Format.{Format}
 use Rattle.rules.specs.declared.Format.TheVariants.{F201, F202, F203, F301}
@@ -83,15 +83,15 @@ record_at f s =
     }
 
 abbrev pub before : Record → Option (List Record) → Option (List Record)
-before r none = none
-before r (some rs) = some (r ∷ rs)
+before r None = None
+before r (Some rs) = Some (r ∷ rs)
 
 -- k records; 'Nothing follows'
 unfoldable pub parse_records : Format → ℕ → List ℕ → Option (List Record)
-parse_records f zero s = cond (eqb (length s) 0) (some []) none
+parse_records f zero s = cond (eqb (length s) 0) (Some []) None
 parse_records f (suc k) s =
     let rest = parse_records f k (drop (size_of f s) s) in
-    cond (record_shape f s) (before (record_at f s) rest) none
+    cond (record_shape f s) (before (record_at f s) rest) None
 
 -- what a body says: the records of a schedule, or for 301 a plant ID and 0 (registered) or 1 (not)
 pub data Body : Type 0 where
@@ -101,13 +101,13 @@ pub data Body : Type 0 where
 -- '301: count 1, plant ID, result 0 registered or 1 not', after the count
 unfoldable pub parse_registration : List ℕ → Option Body
 parse_registration s =
-    cond (eqb (length s) 27 && all_digits (part s 0 26) && leb (get_or s 26 0) 1) (some (registration (part s 0 26) (get_or s 26 0))) none
+    cond (eqb (length s) 27 && all_digits (part s 0 26) && leb (get_or s 26 0) 1) (Some (registration (part s 0 26) (get_or s 26 0))) None
 
 -- what follows the count
 abbrev pub parse_rest : Format → List ℕ → Option Body
-parse_rest F201 s = map schedule (parse_records F201 (count_of F201) s)
-parse_rest F202 s = map schedule (parse_records F202 (count_of F202) s)
-parse_rest F203 s = map schedule (parse_records F203 (count_of F203) s)
+parse_rest F201 s = option_map schedule (parse_records F201 (count_of F201) s)
+parse_rest F202 s = option_map schedule (parse_records F202 (count_of F202) s)
+parse_rest F203 s = option_map schedule (parse_records F203 (count_of F203) s)
 parse_rest F301 s = parse_registration s
 
 -- whether s begins with the format's record count
@@ -118,7 +118,7 @@ counted f s = leb 6 (length s) && all_digits (part s 0 6) && eqb (value (part s 
 unfoldable pub parse_body : Format → List ℕ → Option Body
 parse_body f s =
     let rest = parse_rest f (drop 6 s) in
-    cond (counted f s) rest none
+    cond (counted f s) rest None
 
 -- ---- the bytes
 

@@ -1,6 +1,5 @@
 -- The calendar of 2000 to 2099 (01, Time, plant, settings): seconds, slots, days and months, and dates in digits.
-use Rattle.std.specs.Prelude.{ℕ, zero, suc, ◌+◌, ◌-◌, ◌*◌, ◌/◌, ◌%◌, Bool, true, false, cond, ◌&&◌, ◌||◌, List, [], ◌∷◌, ◌++◌, get_or, leb, ltb, eqb}
-use Rattle.std.proofs.Math.Option.{Option, none, some}
+use Rattle.std.specs.Prelude.{ℕ, zero, suc, ◌+◌, ◌-◌, ◌*◌, ◌/◌, ◌%◌, Bool, true, false, cond, ◌&&◌, ◌||◌, List, [], ◌∷◌, ◌++◌, get_or, leb, ltb, eqb, Option, None, Some}
 use Rattle.rules.specs.Digits.{part, value, digits}
 
 -- 'A slot is 1,800 s'; 48 slots are a day
@@ -135,7 +134,7 @@ seconds_of s =
 
 -- 14 digits that are a date: its second; anything else: none
 unfoldable pub moment : List ℕ → Option ℕ
-moment s = cond (digits 14 s && exists s) (some (seconds_of s)) none
+moment s = cond (digits 14 s && exists s) (Some (seconds_of s)) None
 
 -- a start, YYYYMMDDhhmm, as 14 digits
 abbrev pub whole_minute : List ℕ → List ℕ
@@ -147,4 +146,4 @@ half_hour s = eqb (minute_in s) 0 || eqb (minute_in s) 30
 
 -- 12 digits that are a date at minute 00 or 30: the slot that begins there; anything else: none
 unfoldable pub start_slot : List ℕ → Option ℕ
-start_slot s = cond (digits 12 s && exists (whole_minute s) && half_hour s) (some (slot_of (seconds_of (whole_minute s)))) none
+start_slot s = cond (digits 12 s && exists (whole_minute s) && half_hour s) (Some (slot_of (seconds_of (whole_minute s)))) None

@@ -1,15 +1,9 @@
 -- Causes of refusal and answers (01, Causes of refusal): 01's number of each cause, and 01's values of each answer.
-use Rattle.std.specs.Prelude.{ℕ, Bool, true, false}
+use Rattle.std.specs.Prelude.{ℕ, Bool, true, false, Option, Some, None, Result, Ok, Err}
 use Rattle.rules.specs.declared.Cause.{Cause}
-use Rattle.rules.specs.declared.Answer.{Answer}
 use Rattle.rules.specs.declared.Ceiling.{Ceiling}
 use Rattle.rules.specs.declared.Due.{Due}
-use Rattle.rules.specs.declared.Command.{Command}
-use Rattle.rules.specs.declared.FreeBlocks.{FreeBlocks}
 use Rattle.rules.specs.declared.Summary.{Summary}
-use Rattle.rules.specs.declared.Reading.{Reading}
-use Rattle.rules.specs.declared.Written.{Written}
-use Rattle.rules.specs.declared.ErrorCode.{ErrorCode}
 use Rattle.rules.specs.Name.{format_number}
 
 -- the table's numbers
@@ -32,6 +26,10 @@ number_of Cause.Buffer = 15  -- output longer than the lent buffer
 number_of Cause.ErrorFile = 16  -- error file breaks its form
 number_of Cause.Response = 17  -- response breaks its form (02, §1)
 
+-- the answer to a call that changes something: tick, clock lost, file or response taken, failure reported
+abbrev pub Answer : Type 0
+Answer = Result (Unit {0}) Cause
+
 -- an answer as 01 gives it: the machine answers in these values
 pub data Reply : Type 0 where
   accepted : Reply
@@ -45,27 +43,27 @@ pub data Reply : Type 0 where
 
 -- what each answer of the unit says
 abbrev pub of_answer : Answer → Reply
-of_answer Answer.Accepted = accepted
-of_answer (Answer.Refused c) = refused (number_of c)
+of_answer (Ok tt) = accepted
+of_answer (Err c) = refused (number_of c)
 
-abbrev pub of_ceiling : Ceiling → Reply
-of_ceiling (Ceiling.Rated r p) = ceiling true r p
-of_ceiling Ceiling.NoRate = ceiling false 0 0
-of_ceiling (Ceiling.Refused c) = refused (number_of c)
+abbrev pub of_ceiling : Result (Option Ceiling) Cause → Reply
+of_ceiling (Ok (Some c)) = ceiling true c.rate c.percent
+of_ceiling (Ok None) = ceiling false 0 0
+of_ceiling (Err c) = refused (number_of c)
 
-abbrev pub of_due : Due → Reply
-of_due Due.Update = update
-of_due (Due.Fixed w) = fixed w
-of_due Due.Nothing = nothing
-of_due (Due.Refused c) = refused (number_of c)
+abbrev pub of_due : Result (Option Due) Cause → Reply
+of_due (Ok (Some Due.Update)) = update
+of_due (Ok (Some (Due.Fixed w))) = fixed w
+of_due (Ok None) = nothing
+of_due (Err c) = refused (number_of c)
 
-abbrev pub of_command : Command → Reply
-of_command (Command.Parts p) = parts p
-of_command (Command.Refused c) = refused (number_of c)
+abbrev pub of_command : Result ℕ Cause → Reply
+of_command (Ok p) = parts p
+of_command (Err c) = refused (number_of c)
 
-abbrev pub of_free_blocks : FreeBlocks → Reply
-of_free_blocks (FreeBlocks.Blocks n) = blocks n
-of_free_blocks (FreeBlocks.Refused c) = refused (number_of c)
+abbrev pub of_free_blocks : Result ℕ Cause → Reply
+of_free_blocks (Ok n) = blocks n
+of_free_blocks (Err c) = refused (number_of c)
 
 -- an answer of a call beside the unit as 01 gives it
 pub data Said (A : Type 0) : Type 0 where
@@ -97,16 +95,16 @@ of_summary s = record {
 }
 
 -- what each answer beside the unit says
-abbrev pub of_reading : Reading → Said FileValues
-of_reading (Reading.Read s) = gives (of_summary s)
-of_reading (Reading.Refused c) = refused_by (number_of c)
+abbrev pub of_reading : Result Summary Cause → Said FileValues
+of_reading (Ok s) = gives (of_summary s)
+of_reading (Err c) = refused_by (number_of c)
 
 -- how many bytes were written
-abbrev pub of_written : Written → Said ℕ
-of_written (Written.Length n) = gives n
-of_written (Written.Refused c) = refused_by (number_of c)
+abbrev pub of_written : Result ℕ Cause → Said ℕ
+of_written (Ok n) = gives n
+of_written (Err c) = refused_by (number_of c)
 
 -- the code of an error file
-abbrev pub of_error_code : ErrorCode → Said ℕ
-of_error_code (ErrorCode.Code n) = gives n
-of_error_code (ErrorCode.Refused c) = refused_by (number_of c)
+abbrev pub of_error_code : Result ℕ Cause → Said ℕ
+of_error_code (Ok n) = gives n
+of_error_code (Err c) = refused_by (number_of c)

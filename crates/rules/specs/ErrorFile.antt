@@ -1,9 +1,7 @@
 -- The error file (01, Beside the unit): its code, and its message text.
-use Rattle.std.specs.Prelude.{ℕ, zero, suc, ◌-◌, Bool, true, false, cond, ◌&&◌, ◌||◌, List, [], ◌∷◌, length, get_or, drop, leb, eqb}
-use Rattle.std.proofs.Math.Option.{Option, none, some}
+use Rattle.std.specs.Prelude.{ℕ, zero, suc, ◌-◌, Bool, true, false, cond, ◌&&◌, ◌||◌, List, [], ◌∷◌, length, get_or, drop, leb, eqb, Result, Ok, Err, Option, None, Some}
 use Rattle.rules.specs.Digits.{part, value, all_ascii, from_ascii}
 use Rattle.rules.specs.declared.Cause.{Cause}
-use Rattle.rules.specs.declared.ErrorCode.{ErrorCode}
 
 -- between two numbers, both taken in
 abbrev pub within : ℕ → ℕ → ℕ → Bool
@@ -51,12 +49,12 @@ is_error_file s =
 
 -- the four digits after the E as a number; none where the file breaks its form (cause 16)
 unfoldable pub error_code : List ℕ → Option ℕ
-error_code s = cond (is_error_file s) (some (value (from_ascii (part s 1 4)))) none
+error_code s = cond (is_error_file s) (Some (value (from_ascii (part s 1 4)))) None
 
 -- the answer: the code, or 'error file breaks its form'
-abbrev pub code_of : Option ℕ → ErrorCode
-code_of (some n) = ErrorCode.Code n
-code_of none = ErrorCode.Refused Cause.ErrorFile
+abbrev pub code_of : Option ℕ → Result ℕ Cause
+code_of (Some n) = Ok n
+code_of None = Err Cause.ErrorFile
 
 -- 'the message text is handed back as that part of the file'; the empty part where the file breaks its form
 unfoldable pub error_text : List ℕ → List ℕ

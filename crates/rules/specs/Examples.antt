@@ -1,6 +1,6 @@
 -- The starred bench examples of 01, as one table: what the definitions compute, and what 01 states.
-use Rattle.std.specs.Prelude.{ℕ, zero, suc, ◌+◌, ◌-◌, ◌*◌, ◌≡◌, refl, Bool, true, ◌&&◌, List, [], ◌∷◌, ◌++◌, length, take, replicate, eqb}
-use Rattle.std.proofs.Math.Option.{none}
+use Rattle.rules.specs.Causes.{Answer}
+use Rattle.std.specs.Prelude.{ℕ, zero, suc, ◌+◌, ◌-◌, ◌*◌, ◌≡◌, refl, Bool, true, ◌&&◌, List, [], ◌∷◌, ◌++◌, length, take, replicate, eqb, Ok, Err, None}
 use Rattle.rules.specs.Digits.{all_at_most, all_ascii, value_from, decimal, same_bytes}
 use Rattle.rules.specs.Calendar.{days_of_month, first_day, exists, seconds_of, start_slot, day_length}
 use Rattle.rules.specs.Plant.{Settings, weighted_sum, check_digit, plant_id, all_hex, mac_address, valid_settings, percent, parts_of, installing}
@@ -25,7 +25,6 @@ use Rattle.rules.specs.File.{
 use Rattle.rules.specs.Machine.{approach, one, window_start, in_window, next_window, failed_fixed}
 use Rattle.rules.specs.Causes.{number_of}
 use Rattle.rules.specs.Writer.{Fields, Output, bytes, write_body, field_records, month_records, update_record, digits_fit, months_fit}
-use Rattle.rules.specs.declared.Answer.{Answer}
 use Rattle.rules.specs.declared.Format.TheVariants.{F203}
 
 -- 'Plant X is 12345678901234567890123455', here without its last digit
@@ -40,8 +39,8 @@ settings = record { panel = 4000; inverter = 5500; minutes = 5 }
 
 -- a refusal's number, and 0 where there is none
 install_number : Answer → ℕ
-install_number Answer.Accepted = 0
-install_number (Answer.Refused c) = number_of c
+install_number (Ok tt) = 0
+install_number (Err c) = number_of c
 
 read_number : Outcome → ℕ
 read_number (refuse c) = number_of c
@@ -72,7 +71,7 @@ read_update : ℕ → ℕ → ℕ
 read_update n r =
     let rates = replicate n r in
     read_number
-    (read_file none
+    (read_file None
     (encode_name (record { format = F203; segment = replicate 4 0; plant = plant_x 5; created = decimal 14 20260327090000 }))
     (encode_body
     (schedule

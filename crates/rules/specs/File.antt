@@ -1,6 +1,5 @@
 -- Reading a name and body (01, Names and bodies, and the causes 7 to 13): each stage covers all records before the next.
-use Rattle.std.specs.Prelude.{ℕ, suc, ◌+◌, ◌%◌, Bool, true, false, ◌&&◌, not, List, [], ◌∷◌, length, get_or, leb, eqb}
-use Rattle.std.proofs.Math.Option.{Option, none, some}
+use Rattle.std.specs.Prelude.{ℕ, suc, ◌+◌, ◌%◌, Bool, true, false, ◌&&◌, not, List, [], ◌∷◌, length, get_or, leb, eqb, Option, None, Some}
 use Rattle.rules.specs.Digits.{part, all_at_most, value, same_bytes}
 use Rattle.rules.specs.Calendar.{exists, month_in, day_in, month_at, seconds_of, slot_of, start_slot, whole_minute, slots_of_month, slot_count}
 use Rattle.rules.specs.Plant.{plant_id}
@@ -18,8 +17,8 @@ pub record File : Type 0 where
 -- ---- stage 8: 'name's ID isn't the plant's (no plant: check digit wrong)'
 
 abbrev pub id_fits : Option (List ℕ) → List ℕ → Bool
-id_fits none id = plant_id id
-id_fits (some plant) id = same_bytes id plant
+id_fits None id = plant_id id
+id_fits (Some plant) id = same_bytes id plant
 
 -- ---- stage 10: 'a date or n against the rules above'
 
@@ -46,8 +45,8 @@ first_month (r ∷ rs) = month_at r.start
 
 -- 'last slot before T': n slots from slot s on
 abbrev pub in_time : ℕ → Option ℕ → Bool
-in_time n none = false
-in_time n (some s) = leb (s + n) slot_count
+in_time n None = false
+in_time n (Some s) = leb (s + n) slot_count
 
 -- 203: 'start minute 00 or 30, last slot before T', and a next access that exists
 unfoldable pub update_dates : Record → Bool
@@ -103,24 +102,24 @@ stages n b =
     (file (record { name = n; body = b })))))
 
 abbrev pub with_body : Name → Option Body → Outcome
-with_body n none = refuse Cause.Form
-with_body n (some b) = stages n b
+with_body n None = refuse Cause.Form
+with_body n (Some b) = stages n b
 
 abbrev pub with_name : Option (List ℕ) → List ℕ → Option Name → Outcome
-with_name plant body none = refuse Cause.Name
-with_name plant body (some n) = need (id_fits plant n.plant) (refuse Cause.OtherPlant) (with_body n (parse_body n.format body))
+with_name plant body None = refuse Cause.Name
+with_name plant body (Some n) = need (id_fits plant n.plant) (refuse Cause.OtherPlant) (with_body n (parse_body n.format body))
 
 -- a name and body, read for a plant or for none
 unfoldable pub read_file : Option (List ℕ) → List ℕ → List ℕ → Outcome
 read_file plant name body = with_name plant body (parse_name name)
 
 abbrev pub is_registration : Option Name → Bool
-is_registration none = false
-is_registration (some n) = not (is_schedule n.format)
+is_registration None = false
+is_registration (Some n) = not (is_schedule n.format)
 
 -- 'a unit takes what reads well, except 301': cause 7, '301 given to be taken'
 unfoldable pub take_file : List ℕ → List ℕ → List ℕ → Outcome
-take_file plant name body = need (not (is_registration (parse_name name))) (refuse Cause.Name) (read_file (some plant) name body)
+take_file plant name body = need (not (is_registration (parse_name name))) (refuse Cause.Name) (read_file (Some plant) name body)
 
 -- ---- the same as a rule about fields: a file whose bytes a reader for that plant, or for none, accepts
 

@@ -1,6 +1,5 @@
 -- The lister (01, Beside the unit): the line that it prints for its input.
-use Rattle.std.specs.Prelude.{ℕ, ◌+◌, cond, List, [], ◌∷◌, ◌++◌, length, eqb}
-use Rattle.std.proofs.Math.Option.{none}
+use Rattle.std.specs.Prelude.{ℕ, ◌+◌, cond, List, [], ◌∷◌, ◌++◌, length, eqb, None}
 use Rattle.rules.specs.Digits.{decimal, to_ascii}
 use Rattle.rules.specs.Name.{format_number}
 use Rattle.rules.specs.Body.{Record, Body, schedule, registration}
@@ -46,4 +45,4 @@ line_of (file f) =
     ++ (32 ∷ (numeral (record_count f.body) ++ (32 ∷ (numeral (rate_count f.body) ++ (10 ∷ []))))))
 
 unfoldable pub line : List ℕ → List ℕ
-line input = line_of (read_file none (name_part input) (body_part input))
+line input = line_of (read_file None (name_part input) (body_part input))

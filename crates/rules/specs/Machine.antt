@@ -1,6 +1,5 @@
 -- The plain machine (01, The plain machine): no blocks, all accepted files kept whole, and its answers to every list of calls.
-use Rattle.std.specs.Prelude.{ℕ, zero, suc, ◌+◌, ◌-◌, ◌*◌, min, max, Bool, true, false, cond, not, ◌&&◌, ◌||◌, List, [], ◌∷◌, ◌++◌, length, get_or, leb, ltb, eqb}
-use Rattle.std.proofs.Math.Option.{Option, none, some}
+use Rattle.std.specs.Prelude.{ℕ, zero, suc, ◌+◌, ◌-◌, ◌*◌, min, max, Bool, true, false, cond, not, ◌&&◌, ◌||◌, List, [], ◌∷◌, ◌++◌, length, get_or, leb, ltb, eqb, Option, None, Some}
 use Rattle.rules.specs.Calendar.{first_slot, month_of_slot, month_of, slot_of, time_of_day, day_length, slot_count, end_of_time, month_count}
 use Rattle.rules.specs.Plant.{Settings, percent, parts_of, last_digit}
 use Rattle.rules.specs.Name.{Name, segment_digit}
@@ -41,7 +40,7 @@ pub record Machine : Type 0 where
   pub command : ℕ
 
 unfoldable pub fresh_machine : Machine
-fresh_machine = record { clock = none; floor = 0; files = []; requests = fresh_requests; command = 0 }
+fresh_machine = record { clock = None; floor = 0; files = []; requests = fresh_requests; command = 0 }
 
 -- ---- rate of a slot
 
@@ -50,15 +49,15 @@ abbrev pub covers : ℕ → Record → Bool
 covers s r = leb (start_of r) s && ltb s (start_of r + length r.rates)
 
 unfoldable pub rate_in : ℕ → List Record → Option ℕ
-rate_in s [] = none
+rate_in s [] = None
 rate_in s (r ∷ rs) =
     let rest = rate_in s rs in
-    cond (covers s r) (some (get_or r.rates (s - start_of r) 0)) rest
+    cond (covers s r) (Some (get_or r.rates (s - start_of r) 0)) rest
 
 -- the second where the first gives none
 abbrev pub or_else : Option ℕ → Option ℕ → Option ℕ
-or_else none other = other
-or_else (some r) other = some r
+or_else None other = other
+or_else (Some r) other = Some r
 
 -- 'from the last file in the list covering s'; `found` where none does
 unfoldable pub last_rate : ℕ → List File → Option ℕ → Option ℕ
@@ -67,7 +66,7 @@ last_rate s (f ∷ fs) found = last_rate s fs (or_else (rate_in s (records_in f.
 
 -- 'none if its month is below floor; else from the last file in the list covering s; else none'
 unfoldable pub rate_of : Machine → ℕ → Option ℕ
-rate_of M s = cond (ltb (month_of_slot s) M.floor) none (last_rate s M.files none)
+rate_of M s = cond (ltb (month_of_slot s) M.floor) None (last_rate s M.files None)
 
 -- ---- months held
 
@@ -111,7 +110,7 @@ raised_floor floor t = max floor (month_of t - floor_lag)
 -- 'clock becomes t; the command stays'
 unfoldable pub set_clock : ℕ → Machine → Machine
 set_clock t M = record {
-  clock = some t;
+  clock = Some t;
   floor = raised_floor M.floor t;
   files = M.files;
   requests = M.requests;
@@ -120,8 +119,8 @@ set_clock t M = record {
 
 -- 'no rate counts as r = 0'
 abbrev pub or_zero : Option ℕ → ℕ
-or_zero none = 0
-or_zero (some r) = r
+or_zero None = 0
+or_zero (Some r) = r
 
 -- '60 × N × p of that second's slot'
 abbrev pub target : Settings → Option ℕ → ℕ
@@ -153,15 +152,15 @@ seconds s (suc n) c M = seconds s n (suc c) (second s (suc c) M)
 
 -- 'clock unset or t ≤ clock: ..; otherwise, for each second from clock + 1 to t, ..'
 abbrev pub tick_from : Settings → ℕ → Option ℕ → Machine → Machine
-tick_from s t none M = set_clock t M
-tick_from s t (some c) M = cond (leb t c) (set_clock t M) (seconds s (t - c) c M)
+tick_from s t None M = set_clock t M
+tick_from s t (Some c) M = cond (leb t c) (set_clock t M) (seconds s (t - c) c M)
 
 unfoldable pub ticked : Settings → ℕ → Machine → Machine
 ticked s t M = tick_from s t M.clock M
 
 -- 'Clock lost: clock unset, command 0'
 unfoldable pub lost_clock : Machine → Machine
-lost_clock M = record { clock = none; floor = M.floor; files = M.files; requests = M.requests; command = 0 }
+lost_clock M = record { clock = None; floor = M.floor; files = M.files; requests = M.requests; command = 0 }
 
 -- ---- file taken
 
@@ -274,8 +273,8 @@ due_of s d t q =
 
 -- 'whether it has a rate, r, p; both 0 where no rate'
 abbrev pub ceiling_reply : Settings → Option ℕ → Reply
-ceiling_reply s none = ceiling false 0 0
-ceiling_reply s (some r) = ceiling true r (percent s r)
+ceiling_reply s None = ceiling false 0 0
+ceiling_reply s (Some r) = ceiling true r (percent s r)
 
 -- ---- the calls
 
@@ -297,8 +296,8 @@ check_store w next M = check (eqb w.store_length store_length) Cause.StoreLength
 
 -- '5 by the machine's clock'
 abbrev pub at_clock : Option ℕ → (ℕ → Step) → Machine → Step
-at_clock none next M = refusal Cause.ClockUnset M
-at_clock (some t) next M = next t
+at_clock None next M = refusal Cause.ClockUnset M
+at_clock (Some t) next M = next t
 
 -- '14 by the months that it would hold with the file added'
 abbrev pub take_outcome : ℕ → Outcome → Machine → Step

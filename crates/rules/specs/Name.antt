@@ -1,6 +1,5 @@
 -- A file's name (01, Names and bodies): format, segment, plant ID and creation time in 55 ASCII bytes.
-use Rattle.std.specs.Prelude.{ℕ, ◌+◌, Bool, cond, ◌&&◌, ◌||◌, List, [], ◌∷◌, ◌++◌, length, get_or, leb, eqb}
-use Rattle.std.proofs.Math.Option.{Option, none, some}
+use Rattle.std.specs.Prelude.{ℕ, ◌+◌, Bool, cond, ◌&&◌, ◌||◌, List, [], ◌∷◌, ◌++◌, length, get_or, leb, eqb, Option, None, Some}
 use Rattle.rules.specs.Digits.{part, digits, value, decimal, all_ascii, to_ascii, from_ascii, same_bytes}
 use Rattle.rules.specs.Calendar.{exists, month_number}
 use Rattle.rules.specs.declared.Format.{Format}
@@ -14,7 +13,7 @@ format_number F301 = 301
 
 unfoldable pub format_of : ℕ → Option Format
 format_of n =
-    cond (eqb n 201) (some F201) (cond (eqb n 202) (some F202) (cond (eqb n 203) (some F203) (cond (eqb n 301) (some F301) none)))
+    cond (eqb n 201) (Some F201) (cond (eqb n 202) (Some F202) (cond (eqb n 203) (Some F203) (cond (eqb n 301) (Some F301) None)))
 
 -- the fields of a name, as digits
 pub record Name : Type 0 where
@@ -87,12 +86,12 @@ name_fields f s = record {
 
 -- the name with that format, if its fields are lawful
 abbrev pub name_with : Option Format → List ℕ → Option Name
-name_with none s = none
-name_with (some f) s = cond (lawful_name (name_fields f s)) (some (name_fields f s)) none
+name_with None s = None
+name_with (Some f) s = cond (lawful_name (name_fields f s)) (Some (name_fields f s)) None
 
 -- the fields of a name's bytes; none where they break the form (cause 7)
 unfoldable pub parse_name : List ℕ → Option Name
-parse_name s = cond (name_shape s) (name_with (format_of (value (from_ascii (part s 0 3)))) s) none
+parse_name s = cond (name_shape s) (name_with (format_of (value (from_ascii (part s 0 3)))) s) None
 
 -- 'the segment is given as four ASCII bytes, any that a name may have' (Request)
 unfoldable pub any_segment : List ℕ → Bool

@@ -1,8 +1,8 @@
 -- The plant (01, Time, plant, settings): its ID, its MAC address, its settings, and percent of the inverter from percent of C.
-use Rattle.std.specs.Prelude.{ℕ, suc, ◌+◌, ◌*◌, ◌/◌, ◌%◌, min, Bool, true, cond, ◌&&◌, ◌||◌, List, [], ◌∷◌, length, get_or, take, leb, eqb}
+use Rattle.rules.specs.Causes.{Answer}
+use Rattle.std.specs.Prelude.{ℕ, suc, ◌+◌, ◌*◌, ◌/◌, ◌%◌, min, Bool, true, cond, ◌&&◌, ◌||◌, List, [], ◌∷◌, length, get_or, take, leb, eqb, Ok, Err}
 use Rattle.rules.specs.Digits.{digits}
 use Rattle.rules.specs.declared.Cause.{Cause}
-use Rattle.rules.specs.declared.Answer.{Answer}
 
 -- 'the first 25 times weights 1, 3, 5, 7, 9 repeating, summed'
 abbrev pub weights : List ℕ
@@ -69,5 +69,5 @@ full_command s = 6000 * s.minutes
 unfoldable pub installing : List ℕ → List ℕ → Settings → Answer
 installing id mac s =
     cond (plant_id id)
-    (cond (mac_address mac && valid_settings s) Answer.Accepted (Answer.Refused Cause.Setting))
-    (Answer.Refused Cause.PlantId)
+    (cond (mac_address mac && valid_settings s) (Ok tt) (Err Cause.Setting))
+    (Err Cause.PlantId)

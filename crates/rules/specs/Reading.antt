@@ -1,5 +1,5 @@
 -- What reading a name and body answers: what a unit or a lister needs of a file that reads well, or the cause of the refusal.
-use Rattle.std.specs.Prelude.{ℕ, List, [], ◌∷◌}
+use Rattle.std.specs.Prelude.{ℕ, List, [], ◌∷◌, Result, Ok, Err}
 use Rattle.rules.specs.Digits.{value}
 use Rattle.rules.specs.Body.{Record, Body, schedule, registration}
 use Rattle.rules.specs.File.{File, Outcome, refuse, file, records_in, start_of, flag_of, next_access}
@@ -7,7 +7,7 @@ use Rattle.rules.specs.Lister.{record_count, rate_count}
 use Rattle.rules.specs.declared.Format.{Format}
 use Rattle.rules.specs.declared.Format.TheVariants.{F201, F202, F203, F301}
 use Rattle.rules.specs.declared.Summary.{Summary}
-use Rattle.rules.specs.declared.Reading.{Reading}
+use Rattle.rules.specs.declared.Cause.{Cause}
 
 -- the first slot that a file covers; 0 for 301, which covers none
 abbrev pub first_start : List Record → ℕ
@@ -39,6 +39,6 @@ summary_of f = record {
   result = result_of f.body;
 }
 
-unfoldable pub reading_of : Outcome → Reading
-reading_of (refuse c) = Reading.Refused c
-reading_of (file f) = Reading.Read (summary_of f)
+unfoldable pub reading_of : Outcome → Result Summary Cause
+reading_of (refuse c) = Err c
+reading_of (file f) = Ok (summary_of f)

@@ -1,6 +1,5 @@
 -- A whole response from the modem (02, §1): its header lines, its file, its bytes, and the name and file that bytes carry.
-use Rattle.std.specs.Prelude.{ℕ, zero, suc, Bool, true, false, cond, not, ◌&&◌, ◌||◌, List, [], ◌∷◌, ◌++◌, length, take, drop, leb, eqb}
-use Rattle.std.proofs.Math.Option.{Option, none, some}
+use Rattle.std.specs.Prelude.{ℕ, zero, suc, Bool, true, false, cond, not, ◌&&◌, ◌||◌, List, [], ◌∷◌, ◌++◌, length, take, drop, leb, eqb, Option, None, Some}
 use Rattle.rules.specs.Digits.{all_ascii, from_ascii, value, same_bytes}
 use Rattle.rules.specs.File.{Outcome, refuse, take_file}
 use Rattle.rules.specs.declared.Cause.{Cause}
@@ -61,8 +60,8 @@ lines_with p (l ∷ ls) = cond (begins p l) (l ∷ lines_with p ls) (lines_with 
 
 -- 'what follows the first' p
 unfoldable pub behind : List ℕ → List ℕ → Option (List ℕ)
-behind p [] = none
-behind p (x ∷ s) = cond (begins p (x ∷ s)) (some (drop (length p) (x ∷ s))) (behind p s)
+behind p [] = None
+behind p (x ∷ s) = cond (begins p (x ∷ s)) (Some (drop (length p) (x ∷ s))) (behind p s)
 
 -- 'spelt so, before a colon and a space': `Content-Length: `
 abbrev pub content_length : List ℕ
@@ -79,19 +78,19 @@ file_name = 102 ∷ 105 ∷ 108 ∷ 101 ∷ 110 ∷ 97 ∷ 109 ∷ 101 ∷ 61 �
 
 -- 'The length is 1 to 6 decimal digits'
 unfoldable pub length_in : List ℕ → Option ℕ
-length_in d = cond (leb 1 (length d) && leb (length d) 6 && all_ascii d) (some (value (from_ascii d))) none
+length_in d = cond (leb 1 (length d) && leb (length d) 6 && all_ascii d) (Some (value (from_ascii d))) None
 
 -- 'must begin exactly one header line': of the lines that begin so, the length that the only one gives
 abbrev pub only_length : List (List ℕ) → Option ℕ
-only_length [] = none
+only_length [] = None
 only_length (l ∷ []) = length_in (drop (length content_length) l)
-only_length (l ∷ m ∷ ls) = none
+only_length (l ∷ m ∷ ls) = None
 
 -- 'the name is what follows the first `filename=` in the Content-Disposition line, quotation marks included, to the line's end'
 abbrev pub only_name : List (List ℕ) → Option (List ℕ)
-only_name [] = none
+only_name [] = None
 only_name (l ∷ []) = behind file_name l
-only_name (l ∷ m ∷ ls) = none
+only_name (l ∷ m ∷ ls) = None
 
 abbrev pub given_length : List (List ℕ) → Option ℕ
 given_length ls = only_length (lines_with content_length ls)
@@ -108,21 +107,21 @@ pub record Response : Type 0 where
 
 -- 'the file is exactly that long'
 abbrev pub is_length : Option ℕ → ℕ → Bool
-is_length none n = false
-is_length (some m) n = eqb m n
+is_length None n = false
+is_length (Some m) n = eqb m n
 
 -- 'without one the form is broken'
 abbrev pub is_name : Option (List ℕ) → Bool
-is_name none = false
-is_name (some name) = true
+is_name None = false
+is_name (Some name) = true
 
 unfoldable pub lawful_response : Response → Bool
 lawful_response r = lawful_lines r.lines && is_length (given_length r.lines) (length r.file) && is_name (given_name r.lines)
 
 -- the name of a lawful response
 abbrev pub the_name : Option (List ℕ) → List ℕ
-the_name none = []
-the_name (some name) = name
+the_name None = []
+the_name (Some name) = name
 
 abbrev pub name_of : Response → List ℕ
 name_of r = the_name (given_name r.lines)
@@ -153,33 +152,33 @@ encode_response b r = opening b ++ (lines_bytes r.lines ++ (line_end ++ (r.file 
 
 -- what follows p where it stands at the front
 unfoldable pub strip : List ℕ → List ℕ → Option (List ℕ)
-strip p s = cond (begins p s) (some (drop (length p) s)) none
+strip p s = cond (begins p s) (Some (drop (length p) s)) None
 
 abbrev pub before_byte : ℕ → Option (List ℕ × List ℕ) → Option (List ℕ × List ℕ)
-before_byte x none = none
-before_byte x (some q) = some (x ∷ q.0, q.1)
+before_byte x None = None
+before_byte x (Some q) = Some (x ∷ q.0, q.1)
 
 -- the first line, and what follows its end
 unfoldable pub line_of : List ℕ → Option (List ℕ × List ℕ)
-line_of [] = none
-line_of (x ∷ s) = cond (pair_at (x ∷ s)) (some ([], drop 1 s)) (before_byte x (line_of s))
+line_of [] = None
+line_of (x ∷ s) = cond (pair_at (x ∷ s)) (Some ([], drop 1 s)) (before_byte x (line_of s))
 
 abbrev pub before_line : List ℕ → Option (List (List ℕ) × List ℕ) → Option (List (List ℕ) × List ℕ)
-before_line l none = none
-before_line l (some q) = some (l ∷ q.0, q.1)
+before_line l None = None
+before_line l (Some q) = Some (l ∷ q.0, q.1)
 
 -- the first line ends the headers where it is empty; `more` reads the headers after it
 abbrev pub line_then : (List ℕ → Option (List (List ℕ) × List ℕ)) → List ℕ → List ℕ → Option (List (List ℕ) × List ℕ)
-line_then more [] rest = some ([], rest)
+line_then more [] rest = Some ([], rest)
 line_then more (x ∷ l) rest = before_line (x ∷ l) (more rest)
 
 abbrev pub headers_then : (List ℕ → Option (List (List ℕ) × List ℕ)) → Option (List ℕ × List ℕ) → Option (List (List ℕ) × List ℕ)
-headers_then more none = none
-headers_then more (some q) = line_then more q.0 q.1
+headers_then more None = None
+headers_then more (Some q) = line_then more q.0 q.1
 
 -- the header lines before the first empty one, of fewer than k, and what follows it
 unfoldable pub headers_of : ℕ → List ℕ → Option (List (List ℕ) × List ℕ)
-headers_of zero s = none
+headers_of zero s = None
 headers_of (suc k) s = headers_then (headers_of k) (line_of s)
 
 -- there are fewer lines than bytes
@@ -188,32 +187,32 @@ headers_in s = headers_of (length s) s
 
 -- what may follow the file: whether one more 0D 0A does
 unfoldable pub end_in : List ℕ → List ℕ → Option Bool
-end_in b s = cond (same_bytes s (closing b)) (some false) (cond (same_bytes s (closing b ++ line_end)) (some true) none)
+end_in b s = cond (same_bytes s (closing b)) (Some false) (cond (same_bytes s (closing b ++ line_end)) (Some true) None)
 
 abbrev pub response_with : List (List ℕ) → List ℕ → Option Bool → Option Response
-response_with ls file none = none
-response_with ls file (some e) = some (record { lines = ls; file = file; ended = e })
+response_with ls file None = None
+response_with ls file (Some e) = Some (record { lines = ls; file = file; ended = e })
 
 -- n bytes are the file, whatever they are
 abbrev pub file_then : List ℕ → List (List ℕ) → List ℕ → Option ℕ → Option Response
-file_then b ls s none = none
-file_then b ls s (some n) = cond (leb n (length s) && is_name (given_name ls)) (response_with ls (take n s) (end_in b (drop n s))) none
+file_then b ls s None = None
+file_then b ls s (Some n) = cond (leb n (length s) && is_name (given_name ls)) (response_with ls (take n s) (end_in b (drop n s))) None
 
 abbrev pub headers_next : List ℕ → Option (List (List ℕ) × List ℕ) → Option Response
-headers_next b none = none
-headers_next b (some q) = file_then b q.0 q.1 (given_length q.0)
+headers_next b None = None
+headers_next b (Some q) = file_then b q.0 q.1 (given_length q.0)
 
 abbrev pub opened_then : List ℕ → Option (List ℕ) → Option Response
-opened_then b none = none
-opened_then b (some s) = headers_next b (headers_in s)
+opened_then b None = None
+opened_then b (Some s) = headers_next b (headers_in s)
 
 -- the response that these bytes are
 unfoldable pub read_response : List ℕ → List ℕ → Option Response
-read_response b s = cond (lawful_boundary b) (opened_then b (strip (opening b) s)) none
+read_response b s = cond (lawful_boundary b) (opened_then b (strip (opening b) s)) None
 
 abbrev pub name_and_file : Option Response → Option (List ℕ × List ℕ)
-name_and_file none = none
-name_and_file (some r) = some (name_of r, r.file)
+name_and_file None = None
+name_and_file (Some r) = Some (name_of r, r.file)
 
 -- its name and its file; none where the bytes break the form
 unfoldable pub parse_response : List ℕ → List ℕ → Option (List ℕ × List ℕ)
@@ -223,8 +222,8 @@ parse_response b s = name_and_file (read_response b s)
 
 -- 'A response that breaks this form is refused with 17'; 'Taking a response is then taking that name and file'
 abbrev pub take_parsed : List ℕ → Option (List ℕ × List ℕ) → Outcome
-take_parsed plant none = refuse Cause.Response
-take_parsed plant (some q) = take_file plant q.0 q.1
+take_parsed plant None = refuse Cause.Response
+take_parsed plant (Some q) = take_file plant q.0 q.1
 
 unfoldable pub take_response : List ℕ → List ℕ → List ℕ → Outcome
 take_response plant boundary s = take_parsed plant (parse_response boundary s)

@@ -1,7 +1,6 @@
 -- Whole responses (02, §1) on small inputs: which name and file they carry, and which cause is the first that applies.
 -- Their bytes are spelt out here once more, and not made by `encode_response`.
-use Rattle.std.specs.Prelude.{ℕ, ◌≡◌, refl, true, cond, ◌&&◌, List, [], ◌∷◌, ◌++◌, length, replicate}
-use Rattle.std.proofs.Math.Option.{Option, none, some}
+use Rattle.std.specs.Prelude.{ℕ, ◌≡◌, refl, true, cond, ◌&&◌, List, [], ◌∷◌, ◌++◌, length, replicate, Option, None, Some}
 use Rattle.rules.specs.Digits.{all_at_most, all_ascii, value_from, decimal, to_ascii, same_bytes}
 use Rattle.rules.specs.Calendar.{exists, seconds_of, start_slot, days_of_month, first_day}
 use Rattle.rules.specs.Plant.{weighted_sum, check_digit, plant_id}
@@ -63,8 +62,8 @@ between boundary lines file more =
 
 -- 1 where a parse gave this name and file
 carries : List ℕ → List ℕ → Option (List ℕ × List ℕ) → ℕ
-carries name file none = 0
-carries name file (some q) = cond (same_bytes q.0 name && same_bytes q.1 file) 1 0
+carries name file None = 0
+carries name file (Some q) = cond (same_bytes q.0 name && same_bytes q.1 file) 1 0
 
 -- 1 where these lines and this file carry this name and the file
 carried : List ℕ → List ℕ → List ℕ → ℕ

@@ -1,7 +1,6 @@
 -- The rows of reading, of taking, of the request and of install on small inputs: which is the first that applies, also where several do.
 -- The writer's rows are not tried here.
-use Rattle.std.specs.Prelude.{ℕ, ◌+◌, ◌≡◌, refl, true, List, [], ◌∷◌, replicate}
-use Rattle.std.proofs.Math.Option.{Option, none, some}
+use Rattle.std.specs.Prelude.{ℕ, ◌+◌, ◌≡◌, refl, true, List, [], ◌∷◌, replicate, Option, None, Some}
 use Rattle.rules.specs.Digits.{all_at_most, all_ascii, value_from, decimal, same_bytes}
 use Rattle.rules.specs.Calendar.{exists, seconds_of, start_slot, days_of_month, first_day}
 use Rattle.rules.specs.Plant.{weighted_sum, check_digit, plant_id, all_hex, mac_address, valid_settings}
@@ -19,8 +18,8 @@ use Rattle.rules.specs.declared.Format.TheVariants.{F203, F301}
 
 -- the first cause's number, and 0 where no row applies
 unfoldable pub number_by : Option Cause → ℕ
-number_by none = 0
-number_by (some c) = number_of c
+number_by None = 0
+number_by (Some c) = number_of c
 
 unfoldable pub judged : List Row → ℕ
 judged rows = number_by (first_of rows)
@@ -51,17 +50,17 @@ update minute r d last =
 
 pub row_table : List Example
 row_table =
-    line 0 (judged (read_rows none (update_name 5) (update 30 100 0 5))) 0
-    ∷ line 7 (judged (read_rows none [] (update 30 100 0 5))) 7
-    ∷ line 8 (judged (read_rows none (update_name 4) [])) 8
-    ∷ line 9 (judged (read_rows none (update_name 5) [])) 9
-    ∷ line 10 (judged (read_rows none (update_name 5) (update 31 101 1 5))) 10
-    ∷ line 11 (judged (read_rows none (update_name 5) (update 30 101 0 5))) 11
-    ∷ line 11 (judged (read_rows none (update_name 5) (update 30 101 1 5))) 11
-    ∷ line 12 (judged (read_rows none (update_name 5) (update 30 100 1 4))) 12
-    ∷ line 13 (judged (read_rows none (update_name 5) (update 30 100 0 4))) 13
+    line 0 (judged (read_rows None (update_name 5) (update 30 100 0 5))) 0
+    ∷ line 7 (judged (read_rows None [] (update 30 100 0 5))) 7
+    ∷ line 8 (judged (read_rows None (update_name 4) [])) 8
+    ∷ line 9 (judged (read_rows None (update_name 5) [])) 9
+    ∷ line 10 (judged (read_rows None (update_name 5) (update 31 101 1 5))) 10
+    ∷ line 11 (judged (read_rows None (update_name 5) (update 30 101 0 5))) 11
+    ∷ line 11 (judged (read_rows None (update_name 5) (update 30 101 1 5))) 11
+    ∷ line 12 (judged (read_rows None (update_name 5) (update 30 100 1 4))) 12
+    ∷ line 13 (judged (read_rows None (update_name 5) (update 30 100 0 4))) 13
     ∷ line 7 (judged (taken_rows (plant_x 4) (name_for F301 (replicate 4 8) 5) [])) 7
-    ∷ line 9 (judged (read_rows none (name_for F301 (replicate 4 8) 5) [])) 9
+    ∷ line 9 (judged (read_rows None (name_for F301 (replicate 4 8) 5) [])) 9
     ∷ line 8 (judged (taken_rows (plant_x 4) (update_name 5) (update 30 100 0 5))) 8
     ∷ line 0 (judged (taken_rows (plant_x 5) (update_name 5) (update 30 100 0 5))) 0
     ∷ line 15 (judged (request_rows (plant_x 5) mac (replicate 4 48) 83)) 15

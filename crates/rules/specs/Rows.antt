@@ -1,7 +1,6 @@
 -- The rows of 01's table (Causes of refusal), and of 02, for what is read, taken out of a response, written, requested and installed: a test of its own for each
 -- cause that the call has, in the order in which they are judged. The unit's calls have theirs in the crates above.
-use Rattle.std.specs.Prelude.{ℕ, Bool, true, false, not, ◌&&◌, ◌||◌, List, [], ◌∷◌, length, ltb, eqb}
-use Rattle.std.proofs.Math.Option.{Option, none, some}
+use Rattle.std.specs.Prelude.{ℕ, Bool, true, false, not, ◌&&◌, ◌||◌, List, [], ◌∷◌, length, ltb, eqb, Option, None, Some}
 use Rattle.rules.specs.Digits.{digits, all_at_most}
 use Rattle.rules.specs.Plant.{Settings, plant_id, mac_address, valid_settings}
 use Rattle.rules.specs.Name.{Name, parse_name, format_of, any_segment}
@@ -18,30 +17,30 @@ use Rattle.rules.specs.declared.Format.{Format}
 
 -- a name that did not parse breaks its form, and no other rule
 abbrev pub name_breaks : Option Name → Bool
-name_breaks none = true
-name_breaks (some n) = false
+name_breaks None = true
+name_breaks (Some n) = false
 
 abbrev pub id_breaks : Option (List ℕ) → Option Name → Bool
-id_breaks plant none = false
-id_breaks plant (some n) = not (id_fits plant n.plant)
+id_breaks plant None = false
+id_breaks plant (Some n) = not (id_fits plant n.plant)
 
 -- the bytes are no body of the name's format
 abbrev pub unread : Option Body → Bool
-unread none = true
-unread (some b) = false
+unread None = true
+unread (Some b) = false
 
 abbrev pub form_breaks : Option Name → List ℕ → Bool
-form_breaks none body = false
-form_breaks (some n) body = unread (parse_body n.format body)
+form_breaks None body = false
+form_breaks (Some n) body = unread (parse_body n.format body)
 
 -- a rule, over all records, that name and body break; nothing to judge where one of them did not parse
 abbrev pub broken : (Body → Bool) → Option Body → Bool
-broken rule none = false
-broken rule (some b) = not (rule b)
+broken rule None = false
+broken rule (Some b) = not (rule b)
 
 abbrev pub breaks : (Name → Body → Bool) → Option Name → List ℕ → Bool
-breaks rule none body = false
-breaks rule (some n) body = broken (rule n) (parse_body n.format body)
+breaks rule None body = false
+breaks rule (Some n) body = broken (rule n) (parse_body n.format body)
 
 -- after 7, for a plant or for none
 abbrev pub later_rows : Option (List ℕ) → Option Name → List ℕ → List Row
@@ -61,19 +60,19 @@ read_rows plant name body = row Cause.Name (name_breaks (parse_name name)) ∷ l
 -- to be taken by a unit; 7 also: '301 given to be taken'
 unfoldable pub taken_rows : List ℕ → List ℕ → List ℕ → List Row
 taken_rows plant name body =
-    row Cause.Name (name_breaks (parse_name name) || is_registration (parse_name name)) ∷ later_rows (some plant) (parse_name name) body
+    row Cause.Name (name_breaks (parse_name name) || is_registration (parse_name name)) ∷ later_rows (Some plant) (parse_name name) body
 
 -- ---- a response
 
 -- 17: 'A response that breaks this form'
 abbrev pub formless : Option (List ℕ × List ℕ) → Bool
-formless none = true
-formless (some q) = false
+formless None = true
+formless (Some q) = false
 
 -- 'Taking a response is then taking that name and file'; nothing to judge where it has none
 abbrev pub carried_rows : List ℕ → Option (List ℕ × List ℕ) → List Row
-carried_rows plant none = []
-carried_rows plant (some q) = taken_rows plant q.0 q.1
+carried_rows plant None = []
+carried_rows plant (Some q) = taken_rows plant q.0 q.1
 
 -- 'after 5 and before 7'
 unfoldable pub response_rows : List ℕ → List ℕ → List ℕ → List Row
@@ -110,8 +109,8 @@ dates_break w =
 
 -- the records of the fields, and the body's bytes
 abbrev pub records_for : Option Format → Fields → List Record
-records_for none w = []
-records_for (some f) w = field_records f w
+records_for None w = []
+records_for (Some f) w = field_records f w
 
 abbrev pub body_for : Fields → List ℕ
 body_for w = encode_body (schedule (records_for (format_of w.format) w))

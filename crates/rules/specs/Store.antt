@@ -1,7 +1,6 @@
 -- The store and the unit's values (01, The store): lengths, the byte of a slot, and when a unit and a store are sound.
-use Rattle.std.specs.Prelude.{ℕ, zero, suc, ◌+◌, ◌*◌, Bool, true, false, cond, not, ◌&&◌, ◌||◌, List, [], ◌∷◌, map, take, drop, leb, ltb, eqb}
+use Rattle.std.specs.Prelude.{ℕ, zero, suc, ◌+◌, ◌*◌, Bool, true, false, cond, not, ◌&&◌, ◌||◌, List, [], ◌∷◌, map, take, drop, leb, ltb, eqb, Option, None, Some}
 use Rattle.std.specs.Bool.{beq}
-use Rattle.std.proofs.Math.Option.{Option, none, some}
 use Rattle.rules.specs.Digits.{part}
 use Rattle.rules.specs.Calendar.{slots_of_day, month_count, longest_month, slots_of_month, end_of_time}
 use Rattle.rules.specs.Body.{highest_rate}
@@ -25,14 +24,14 @@ abbrev pub no_rate : ℕ
 no_rate = 255
 
 abbrev pub to_byte : Option ℕ → ℕ
-to_byte none = no_rate
-to_byte (some r) = r
+to_byte None = no_rate
+to_byte (Some r) = r
 
 unfoldable pub rate_bytes : List ℕ → List ℕ
-rate_bytes rates = map (λ r. to_byte (some r)) rates
+rate_bytes rates = map (λ r. to_byte (Some r)) rates
 
 unfoldable pub from_byte : ℕ → Option ℕ
-from_byte x = cond (eqb x no_rate) none (some x)
+from_byte x = cond (eqb x no_rate) None (Some x)
 
 -- 'bytes are 0 to 100 or 255'
 abbrev pub lawful_byte : ℕ → Bool
@@ -117,8 +116,8 @@ sound_requests s q =
 
 -- 'clock unset or below T'
 abbrev pub sound_clock : Option ℕ → Bool
-sound_clock none = true
-sound_clock (some t) = ltb t end_of_time
+sound_clock None = true
+sound_clock (Some t) = ltb t end_of_time
 
 -- 'A unit is sound when ..'
 unfoldable pub sound_unit : Values → Bool
@@ -153,7 +152,7 @@ fresh_values plant mac s = record {
   plant = plant;
   mac = mac;
   settings = s;
-  clock = none;
+  clock = None;
   floor = 0;
   held = [];
   free = λ b. true;

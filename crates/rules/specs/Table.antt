@@ -1,6 +1,5 @@
 -- The table of causes as it is judged (01, Causes of refusal): rows in order, of which the first that applies is the cause.
-use Rattle.std.specs.Prelude.{ℕ, ◌*◌, ◌<◌, ◌≡◌, Bool, true, false, cond, ◌&&◌, ◌||◌, List, [], ◌∷◌, eqb}
-use Rattle.std.proofs.Math.Option.{Option, none, some}
+use Rattle.std.specs.Prelude.{ℕ, ◌*◌, ◌<◌, ◌≡◌, Bool, true, false, cond, ◌&&◌, ◌||◌, List, [], ◌∷◌, eqb, Option, None, Some}
 use Rattle.rules.specs.Causes.{number_of}
 use Rattle.rules.specs.declared.Cause.{Cause}
 
@@ -22,8 +21,8 @@ abbrev pub row : Cause → Bool → Row
 row c test = record { applies = test; cause = c }
 
 unfoldable pub first_of : List Row → Option Cause
-first_of [] = none
-first_of (r ∷ rs) = cond r.applies (some r.cause) (first_of rs)
+first_of [] = None
+first_of (r ∷ rs) = cond r.applies (Some r.cause) (first_of rs)
 
 -- ---- 'The lowest number that applies is given'
 

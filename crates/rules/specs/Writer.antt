@@ -1,6 +1,5 @@
 -- The writer (01, Beside the unit): a 201, 202 or 203 body from its fields, and the causes of its refusal in order.
-use Rattle.std.specs.Prelude.{ℕ, zero, suc, ◌+◌, ◌-◌, ◌/◌, ◌%◌, Bool, true, false, ◌&&◌, ◌||◌, List, [], ◌∷◌, ◌++◌, length, take, drop, leb, eqb}
-use Rattle.std.proofs.Math.Option.{Option, none, some}
+use Rattle.std.specs.Prelude.{ℕ, zero, suc, ◌+◌, ◌-◌, ◌/◌, ◌%◌, Bool, true, false, ◌&&◌, ◌||◌, List, [], ◌∷◌, ◌++◌, length, take, drop, leb, eqb, Result, Ok, Err, Option, None, Some}
 use Rattle.rules.specs.Digits.{all_at_most, digits, decimal}
 use Rattle.rules.specs.Calendar.{exists, month_at, whole_minute, first_slot, slots_of_month, month_count}
 use Rattle.rules.specs.Plant.{plant_id}
@@ -10,7 +9,6 @@ use Rattle.rules.specs.File.{month_begins, update_dates, checksum_of}
 use Rattle.rules.specs.Table.{need}
 use Rattle.rules.specs.declared.Cause.{Cause}
 use Rattle.rules.specs.declared.Format.{Format}
-use Rattle.rules.specs.declared.Written.{Written}
 use Rattle.rules.specs.declared.Format.TheVariants.{F201, F202, F203, F301}
 
 -- what an output is made of: bytes for the caller's buffer, or the cause of a refusal
@@ -23,9 +21,9 @@ abbrev pub fitting : ℕ → List ℕ → Output
 fitting room b = need (leb (length b) room) (refuse Cause.Buffer) (bytes b)
 
 -- the answer to the caller
-abbrev pub written_of : Output → Written
-written_of (refuse c) = Written.Refused c
-written_of (bytes b) = Written.Length (length b)
+abbrev pub written_of : Output → Result ℕ Cause
+written_of (refuse c) = Err c
+written_of (bytes b) = Ok (length b)
 
 -- what the buffer holds afterwards: 'bytes past its end stay', and on refusal all of them
 abbrev pub buffer_after : Output → List ℕ → List ℕ
@@ -114,8 +112,8 @@ dates_fit F301 w = false
 
 -- of fields with that format, into so much room
 abbrev pub write_as : ℕ → Fields → Option Format → Output
-write_as room w none = refuse Cause.Name
-write_as room w (some f) =
+write_as room w None = refuse Cause.Name
+write_as room w (Some f) =
     need (is_schedule f) (refuse Cause.Name)
     (need (digits_fit f w) (refuse Cause.Form)
     (need (dates_fit f w) (refuse Cause.Date)

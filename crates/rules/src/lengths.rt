@@ -36,7 +36,7 @@ pub const BLOCK_LENGTH: usize = (SLOTS_OF_DAY * LONGEST_MONTH) as usize;
 
 pub const STORE_LENGTH: usize = BLOCK_COUNT * BLOCK_LENGTH;
 
-// 'Byte i is the rate of its slot i, 255 where no file gave one'.
+// 'Byte i is the rate of its slot i, 255 where no file gave one': a number for none, since the store is bytes.
 pub const NO_RATE: u8 = 255;
 
 // 'Floor first becomes the greater of itself and the clock's month - 1'.

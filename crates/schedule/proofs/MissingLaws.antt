@@ -1,4 +1,5 @@
 -- Laws of the blocks that a run still needs: a count over a range of months is the count over all of them.
+use Rattle.std.specs.Prelude.{is_none}
 use Prim.Native.Nat.{ℕ, zero, suc, ◌+◌, ◌-◌, ◌≤◌, ◌<◌, min, max}
 use mathlib.Core.Path.{◌≡◌, ◌∙◌, refl, sym, ap}
 use mathlib.Core.Logic.{⊎_elim}
@@ -13,7 +14,7 @@ use Rattle.rules.specs.Machine.{one, count_below}
 use Rattle.calendar.proofs.Laws.{first-slot-monotone, first-slot-strict, first-slot-rises, first-slot-end, slot-month-few, slot-month-from, slot-month-until, slot-month-past}
 use Rattle.pool.specs.Blocks.{find_of}
 use Rattle.pool.specs.declared.Pool.{Pool}
-use Rattle.schedule.specs.Stored.{meets, is_nothing, missing}
+use Rattle.schedule.specs.Stored.{meets, missing}
 use Rattle.schedule.specs.Rates.{end_month}
 use Rattle.schedule.proofs.RateLaws.{slot-from}
 
@@ -112,30 +113,30 @@ module _ (s n : ℕ) where
 
 module _ (p : Pool) (floor s n : ℕ) where
   abbrev pub needs-block : ℕ → Bool
-  needs-block m = leb floor m && meets m s n && is_nothing (find_of p m)
+  needs-block m = leb floor m && meets m s n && is_none (find_of p m)
 
   needs-low : (m : ℕ) → m < max floor (month_of_slot s) → needs-block m ≡ false
   needs-low m l = go (leb floor m) refl
     where
-      go : (t : Bool) → leb floor m ≡ t → (t && meets m s n && is_nothing (find_of p m)) ≡ false
+      go : (t : Bool) → leb floor m ≡ t → (t && meets m s n && is_none (find_of p m)) ≡ false
       go true e = let h = leb-true floor m e in rw (meets-low s n m (omega arith))
       go false e = refl
 
   needs-high : (m : ℕ) → end_month s n ≤ m → m < month_count → needs-block m ≡ false
   needs-high m l few = rw (meets-high s n m l few) (go (leb floor m))
     where
-      go : (t : Bool) → (t && false && is_nothing (find_of p m)) ≡ false
+      go : (t : Bool) → (t && false && is_none (find_of p m)) ≡ false
       go true = refl
       go false = refl
 
-  needs_in : (m : ℕ) → max floor (month_of_slot s) ≤ m → m < end_month s n → needs-block m ≡ is_nothing (find_of p m)
+  needs_in : (m : ℕ) → max floor (month_of_slot s) ≤ m → m < end_month s n → needs-block m ≡ is_none (find_of p m)
   needs_in m l h = rw (le-leb floor m (omega arith), meets-in s n m (omega arith) h)
 
   pub missing-start : (start : ℕ) → start ≡ min (max floor (month_of_slot s)) (end_month s n) → 0 ≡ count_below start needs-block
   missing-start start e = sym (count_none start needs-block (λ m l. needs-low m (omega arith)))
 
   pub missing-step : (m : ℕ) → min (max floor (month_of_slot s)) (end_month s n) ≤ m → m < end_month s n
-      → count_below (m + 1) needs-block ≡ count_below m needs-block + one (is_nothing (find_of p m))
+      → count_below (m + 1) needs-block ≡ count_below m needs-block + one (is_none (find_of p m))
   missing-step m l h = count-step m needs-block ∙ ap (λ (t : Bool). count_below m needs-block + one t) (needs_in m (omega arith) h)
 
   pub missing-end : (m : ℕ) → m ≡ end_month s n → count_below m needs-block ≡ missing p floor s n

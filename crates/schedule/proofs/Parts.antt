@@ -1,36 +1,18 @@
--- Laws of lists and of the loops over them: a fill, a copy, a part that is replaced.
+-- Laws of lists: an element, a part that is replaced.
 use Prim.Native.Nat.{ℕ, zero, suc, ◌+◌, ◌-◌, ◌≤◌, ◌<◌}
 use mathlib.Core.Path.{◌≡◌, ◌∙◌, refl, sym, ap}
-use mathlib.Core.List.{List, [], ◌∷◌, ◌++◌, append-nil, append_assoc}
+use mathlib.Core.List.{List, [], ◌∷◌, ◌++◌, append_assoc}
 use native.Mathlib.Nat.{le_of_suc-le-suc}
-use native.Mathlib.Numerals.{add-one}
 use native.Mathlib.Omega.{arith}
-use borrow.Author.Fill.{fill_more}
 use borrow.Rule.Slice.PartMut.{mid_of, put_mid, mid_len, Post-is}
-use lib.ListN.{length, get_or, take, drop, set, replicate, length-replicate}
-use lib.Seq.{take-suc, take-suc-set, drop-length, sets, sets-eq}
+use lib.ListN.{length, get_or, take, drop, replicate, length-replicate}
+use lib.Seq.{sets, sets-eq}
 
 -- an element within the list is the same for every default
 pub get_d_in : (l : List ℕ) (i d e : ℕ) → i < length l → get_or l i d ≡ get_or l i e
 get_d_in [] i d e h = absurd (omega arith)
 get_d_in (x ∷ l) zero d e h = refl
 get_d_in (x ∷ l) (suc i) d e h = get_d_in l i d e (le_of_suc-le-suc h)
-
--- ---- a fill: what stands below i is filled
-
-pub fill_step : (to : List ℕ) (d : List ℕ) (i v : ℕ) → i < length d → to ≡ replicate i v ++ drop i d → set to i v ≡ replicate (i + 1) v ++ drop (i + 1) d
-fill_step to d i v h e = rw e (fill_more i v d h)
-
-pub fill_end : (to : List ℕ) (d : List ℕ) (i v : ℕ) → i ≡ length d → to ≡ replicate i v ++ drop i d → to ≡ replicate (length d) v
-fill_end to d i v h e = e ∙ rw (h, drop-length d) (append-nil (replicate (length d) v))
-
--- ---- a copy: what stands below i is copied
-
-pub copy_step : (to from : List ℕ) (i v : ℕ) → i < length from → length to ≡ length from → v ≡ get_or from i 0 → take i to ≡ take i from
-    → take (i + 1) (set to i v) ≡ take (i + 1) from
-copy_step to from i v h e f t =
-    let h' : i < length to = omega arith in
-    rw (add-one i, take-suc-set to i v h', take-suc from i 0 h, t, f) refl
 
 -- ---- a part that was lent and comes back with other elements
 

@@ -1,4 +1,5 @@
 -- Laws of putting rates: what each step of `put_run` is, by the tests that the code makes.
+use Rattle.std.specs.Prelude.{Option, Some, None}
 use Prim.Native.Nat.{ℕ, suc, ◌+◌, ◌-◌, ◌≤◌, ◌<◌, min, max}
 use mathlib.Core.Path.{◌≡◌, ◌∙◌, sym, ap}
 use mathlib.Core.Bool.{true, false, ◌&&◌, and-false}
@@ -18,64 +19,64 @@ use Rattle.calendar.proofs.Laws.{first-slot-step, days-range}
 use Rattle.pool.specs.Blocks.{is_free, free_count, given, find_of, take_of}
 use Rattle.pool.specs.declared.Pool.{Pool}
 use Rattle.pool.specs.declared.Taken.{Taken}
-use Rattle.pool.specs.declared.Found.{Found}
-use Rattle.pool.specs.declared.Found.TheVariants.{At, Nothing}
-use Rattle.pool.specs.declared.Place.{Place}
-use Rattle.pool.specs.declared.Place.TheVariants.{In, Full}
 use Rattle.pool.proofs.Laws.{found_none, take-full, take_in, take_left, take_found}
 use Rattle.schedule.specs.Stored.{Stored, Piece, place, blank, opened, open_by, open_month, laid, lay_by, lay_piece, put_piece, piece_in, can_put, put_run}
 use Rattle.schedule.specs.Rates.{stored_of, piece_of}
 
 -- ---- taking a block
 
-pub take_below : (p : Pool) (m b : ℕ) → (take_of p m).place ≡ In b → b < block_count
+take_below : (p : Pool) (m b : ℕ) → (take_of p m).place ≡ Some b → b < block_count
 take_below p m b e = ⊎_elim none (λ r. some (take_in p m r)) (eq-zero-or-pos (free_count p))
   where
     none : free_count p ≡ 0 → b < block_count
     none z =
-        let f : Full ≡ In b = ap (λ (t : Taken). t.place) (sym (take-full p m z)) ∙ e in
+        let f : None ≡ Some b = ap (λ (t : Taken). t.place) (sym (take-full p m z)) ∙ e in
         let w : ◌≡◌ {A = ℕ} 0 1 = cc in
         absurd (omega arith)
 
-    some : (a : ℕ) × (a < block_count) × (is_free p a ≡ true) × (take_of p m ≡ record { pool = given p m a; place = In a }) → b < block_count
+    some : (a : ℕ) × (a < block_count) × (is_free p a ≡ true) × (take_of p m ≡ record { pool = given p m a; place = Some a }) → b < block_count
     some w =
-        let f : In w.0 ≡ In b = ap (λ (t : Taken). t.place) (sym w.3) ∙ e in
+        let f : Some w.0 ≡ Some b = ap (λ (t : Taken). t.place) (sym w.3) ∙ e in
         let same : w.0 ≡ b = cc in
         omega (arith, w.1)
 
 module _ (q : Taken) (p : Pool) (m : ℕ) (l : List ℕ) (e : q ≡ take_of p m) where
-  pub take-opens : (b : ℕ) (after : List ℕ) → q.place ≡ In b → after ≡ sets l (place b 0) blank → stored_of q.pool after ≡ open_by Nothing m (stored_of p l)
+  pub take-opens : (b : ℕ) (after : List ℕ) → q.place ≡ Some b → after ≡ sets l (place b 0) blank → stored_of q.pool after ≡ open_by None m (stored_of p l)
   take-opens b after h f =
       ap (stored_of q.pool) f
-      ∙ ap (λ (x : Place). opened q.pool x l) (sym h)
+      ∙ ap (λ (x : Option ℕ). opened q.pool x l) (sym h)
       ∙ ap (λ (t : Taken). opened t.pool t.place l) e
 
-  pub take_none : q.place ≡ Full → stored_of q.pool l ≡ open_by Nothing m (stored_of p l)
-  take_none h = ap (λ (x : Place). opened q.pool x l) (sym h) ∙ ap (λ (t : Taken). opened t.pool t.place l) e
+  pub take_none : q.place ≡ None → stored_of q.pool l ≡ open_by None m (stored_of p l)
+  take_none h = ap (λ (x : Option ℕ). opened q.pool x l) (sym h) ∙ ap (λ (t : Taken). opened t.pool t.place l) e
+
+-- the block that was taken is one of the blocks
+pub taken-below : (q : Taken) (p : Pool) (m : ℕ) → q ≡ take_of p m → (b : ℕ) → q.place ≡ Some b → b < block_count
+taken-below q p m e b h = take_below p m b (sym (ap (λ (t : Taken). t.place) e) ∙ h)
 
 -- the block that a month was given, and that it has
-module _ (q : Taken) (p : Pool) (m : ℕ) (e : q ≡ take_of p m) (none : find_of p m ≡ Nothing) where
-  pub take-block : length p.months ≡ block_count → (b : ℕ) → q.place ≡ In b → At b ≡ find_of q.pool m
+module _ (q : Taken) (p : Pool) (m : ℕ) (e : q ≡ take_of p m) (none : find_of p m ≡ None) where
+  pub take-block : length p.months ≡ block_count → (b : ℕ) → q.place ≡ Some b → Some b ≡ find_of q.pool m
   take-block long b h =
       sym (ap (λ (t : Taken). find_of t.pool m) e ∙ take_found p m long (found_none p m none) b (ap (λ (t : Taken). t.place) (sym e) ∙ h))
 
-  pub take-no-block : q.place ≡ Full → Nothing ≡ find_of q.pool m
+  pub take-no-block : q.place ≡ None → None ≡ find_of q.pool m
   take-no-block h =
       sym (ap (λ (t : Taken). find_of t.pool m) e ∙ ap (λ (x : Pool). find_of x m) (take_left p m (ap (λ (t : Taken). t.place) (sym e) ∙ h)) ∙ none)
 
 -- ---- opening a month, laying a piece
 
 module _ (p : Pool) (m : ℕ) (l : List ℕ) where
-  pub open-found : (b : ℕ) → find_of p m ≡ At b → stored_of p l ≡ open_month m (stored_of p l)
+  pub open-found : (b : ℕ) → find_of p m ≡ Some b → stored_of p l ≡ open_month m (stored_of p l)
   unfolding open_month
   open-found b e = ap (λ f. open_by f m (stored_of p l)) (sym e)
 
-  pub open-new : find_of p m ≡ Nothing → open_by Nothing m (stored_of p l) ≡ open_month m (stored_of p l)
+  pub open-new : find_of p m ≡ None → open_by None m (stored_of p l) ≡ open_month m (stored_of p l)
   unfolding open_month
   open-new e = ap (λ f. open_by f m (stored_of p l)) (sym e)
 
 -- a piece laid into the block that its month has
-pub lay_is : (p : Pool) (q : Piece) (l after : List ℕ) (f : Found) → f ≡ find_of p q.month
+pub lay_is : (p : Pool) (q : Piece) (l after : List ℕ) (f : Option ℕ) → f ≡ find_of p q.month
     → after ≡ laid f q.from q.rates l → stored_of p after ≡ lay_piece q (stored_of p l)
 unfolding lay_piece
 lay_is p q l after f e h = ap (stored_of p) h ∙ ap (λ x. lay_by x q (stored_of p l)) e
@@ -99,11 +100,14 @@ part_count s low high h k = omega arith
 pub part_room : (first low high n : ℕ) → first ≤ low → low < high → high ≤ first + block_length → n ≤ high - low → (low - first) + n ≤ block_length
 part_room first low high n a b c d = omega arith
 
-module _ (m s first low high : ℕ) (rates : List ℕ) (f : first ≡ first_slot m) (l : low ≡ max s first)
-    (h : high ≡ min (s + length rates) (first_slot (suc m))) where
+module _ (m s first next low high : ℕ) (rates : List ℕ) (f : first ≡ first_slot m) (g : next ≡ first_slot (m + 1)) (l : low ≡ max s first)
+    (h : high ≡ min (s + length rates) next) where
+  high_is : high ≡ min (s + length rates) (first_slot (suc m))
+  high_is = h ∙ ap (min (s + length rates)) (g ∙ ap first_slot (add-one m))
+
   piece_is : low < high → piece_in m s rates ≡ piece_of m (low - first) (take ((high - s) - (low - s)) (drop (low - s) rates))
   unfolding piece_in
-  piece_is k = rw (part_count s low high (omega arith) k, l, h, f)
+  piece_is k = rw (part_count s low high (omega arith) k, l, high_is, f)
 
   pub piece_put : (floor : ℕ) (st after : Stored) → low < high
       → after ≡ put_piece floor (piece_of m (low - first) (take ((high - s) - (low - s)) (drop (low - s) rates))) st
@@ -115,12 +119,12 @@ module _ (m s first low high : ℕ) (rates : List ℕ) (f : first ≡ first_slot
       let end : first_slot (suc m) ≤ first + block_length = omega (arith, first-slot-step m, days-range m) in
       let n = length (take ((high - s) - (low - s)) (drop (low - s) rates)) in
       let count : n ≤ high - low = rw (part_count s low high (omega arith) k, length-take (high - low) (drop (low - s) rates)) (omega arith) in
-      part_room first low high n (omega arith) k (omega arith) count
+      part_room first low high n (omega arith) k (omega (arith, high_is)) count
 
   pub piece-none : high ≤ low → (floor : ℕ) (st : Stored) → st ≡ put_piece floor (piece_in m s rates) st
   unfolding piece_in
   piece-none k floor st =
-      let z : min (s + length rates) (first_slot (suc m)) - max s (first_slot m) ≡ 0 = omega arith in
+      let z : min (s + length rates) (first_slot (suc m)) - max s (first_slot m) ≡ 0 = omega (arith, high_is) in
       sym (piece_out floor (piece_in m s rates) st (rw z (and-false (leb floor m))))
 
 -- ---- a run

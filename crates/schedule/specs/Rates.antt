@@ -1,21 +1,11 @@
 -- What the code's answers are in terms of `Stored`: a rate that may be missing, and values put together.
-use Rattle.std.specs.Prelude.{ℕ, suc, ◌+◌, ◌-◌, ◌%◌, ◌<◌, min, ◌≡◌, Bool, cond, ◌&&◌, ◌||◌, List, leb, eqb}
-use Rattle.std.proofs.Math.Option.{Option, none, some}
+use Rattle.std.specs.Prelude.{ℕ, suc, ◌+◌, ◌-◌, ◌%◌, ◌<◌, min, ◌≡◌, Bool, cond, ◌&&◌, ◌||◌, List, leb, eqb, Some, Option}
 use Rattle.rules.specs.Calendar.{first_slot, month_of_slot, slot_count}
 use Rattle.rules.specs.Body.{highest_rate}
 use Rattle.rules.specs.Store.{store_length, no_rate, block_of, sound_block, block_count}
 use Rattle.pool.specs.Blocks.{is_free, month_of}
 use Rattle.pool.specs.declared.Pool.{Pool}
-use Rattle.pool.specs.declared.Found.{Found}
-use Rattle.pool.specs.declared.Found.TheVariants.{At}
-use Rattle.schedule.specs.declared.rates.StoredRate.{StoredRate}
-use Rattle.schedule.specs.declared.rates.StoredRate.TheVariants.{Rate, NoRate}
 use Rattle.schedule.specs.Stored.{Stored, Piece}
-
--- what the code answers for the rate of a slot
-abbrev pub rate_option : Option ℕ → StoredRate
-rate_option none = NoRate
-rate_option (some r) = Rate r
 
 -- the pool p with the bytes of the store
 abbrev pub stored_of : Pool → List ℕ → Stored
@@ -26,8 +16,8 @@ abbrev pub piece_of : ℕ → ℕ → List ℕ → Piece
 piece_of m from rates = record { month = m; from = from; rates = rates }
 
 -- a block that is found stands in the store
-abbrev pub InStore : Found → Type 0
-InStore f = (b : ℕ) → f ≡ At b → b < block_count
+abbrev pub InStore : Option ℕ → Type 0
+InStore f = (b : ℕ) → f ≡ Some b → b < block_count
 
 -- `can_put` of n rates from slot s on and a store of so many bytes
 abbrev pub can_put_count : ℕ → ℕ → ℕ → Bool

@@ -1,6 +1,5 @@
 -- The held months' rates: what the pool and the store say of a slot, and what they are after a run of rates is put into them.
-use Rattle.std.specs.Prelude.{ℕ, suc, ◌+◌, ◌-◌, ◌*◌, min, max, Bool, true, false, cond, ◌&&◌, List, leb, ltb, eqb, length, get_or, take, drop, replicate}
-use Rattle.std.proofs.Math.Option.{Option, none}
+use Rattle.std.specs.Prelude.{ℕ, suc, ◌+◌, ◌-◌, ◌*◌, min, max, Bool, cond, ◌&&◌, List, leb, ltb, eqb, length, get_or, take, drop, replicate, Some, None, Option, is_none}
 use Rattle.std.proofs.lemmas.List.Edits.{sets}
 use Rattle.rules.specs.Calendar.{first_slot, month_of_slot, slot_count, month_count}
 use Rattle.rules.specs.Store.{block_length, store_length, no_rate, rate_bytes, from_byte, sound_store}
@@ -8,10 +7,6 @@ use Rattle.rules.specs.Machine.{count_below}
 use Rattle.pool.specs.Blocks.{find_of, take_of}
 use Rattle.pool.specs.Held.{held_of}
 use Rattle.pool.specs.declared.Pool.{Pool}
-use Rattle.pool.specs.declared.Found.{Found}
-use Rattle.pool.specs.declared.Found.TheVariants.{At, Nothing}
-use Rattle.pool.specs.declared.Place.{Place}
-use Rattle.pool.specs.declared.Place.TheVariants.{In, Full}
 
 -- the pool and the store together
 pub record Stored : Type 0 where
@@ -28,9 +23,9 @@ store_holds p store = eqb (length store) store_length && sound_store (held_of p)
 abbrev pub place : ℕ → ℕ → ℕ
 place b i = b * block_length + i
 
-abbrev pub rate_found : Found → List ℕ → ℕ → Option ℕ
-rate_found (At b) store i = from_byte (get_or store (place b i) no_rate)
-rate_found Nothing store i = none
+abbrev pub rate_found : Option ℕ → List ℕ → ℕ → Option ℕ
+rate_found (Some b) store i = from_byte (get_or store (place b i) no_rate)
+rate_found None store i = None
 
 unfoldable pub stored_rate : Pool → List ℕ → ℕ → Option ℕ
 stored_rate p store s = rate_found (find_of p (month_of_slot s)) store (s - first_slot (month_of_slot s))
@@ -46,24 +41,24 @@ pub record Piece : Type 0 where
 abbrev pub blank : List ℕ
 blank = replicate block_length no_rate
 
-abbrev pub opened : Pool → Place → List ℕ → Stored
-opened p (In b) store = record { pool = p; store = sets store (place b 0) blank }
-opened p Full store = record { pool = p; store = store }
+abbrev pub opened : Pool → Option ℕ → List ℕ → Stored
+opened p (Some b) store = record { pool = p; store = sets store (place b 0) blank }
+opened p None store = record { pool = p; store = store }
 
 -- the month has its own block, or a free one that is filled with 255
-abbrev pub open_by : Found → ℕ → Stored → Stored
-open_by (At b) m s = s
-open_by Nothing m s = opened (take_of s.pool m).pool (take_of s.pool m).place s.store
+abbrev pub open_by : Option ℕ → ℕ → Stored → Stored
+open_by (Some b) m s = s
+open_by None m s = opened (take_of s.pool m).pool (take_of s.pool m).place s.store
 
 unfoldable pub open_month : ℕ → Stored → Stored
 open_month m s = open_by (find_of s.pool m) m s
 
 -- 'byte i is the rate of its slot i': rates of the block's slots from `from` on
-abbrev pub laid : Found → ℕ → List ℕ → List ℕ → List ℕ
-laid (At b) from rates store = sets store (place b from) (rate_bytes rates)
-laid Nothing from rates store = store
+abbrev pub laid : Option ℕ → ℕ → List ℕ → List ℕ → List ℕ
+laid (Some b) from rates store = sets store (place b from) (rate_bytes rates)
+laid None from rates store = store
 
-abbrev pub lay_by : Found → Piece → Stored → Stored
+abbrev pub lay_by : Option ℕ → Piece → Stored → Stored
 lay_by f q s = record { pool = s.pool; store = laid f q.from q.rates s.store }
 
 unfoldable pub lay_piece : Piece → Stored → Stored
@@ -103,10 +98,6 @@ put_run floor s rates st =
 abbrev pub meets : ℕ → ℕ → ℕ → Bool
 meets m s n = ltb (max s (first_slot m)) (min (s + n) (first_slot (suc m)))
 
-abbrev pub is_nothing : Found → Bool
-is_nothing (At b) = false
-is_nothing Nothing = true
-
 -- how many months from floor on have a slot of the run and no block
 unfoldable pub missing : Pool → ℕ → ℕ → ℕ → ℕ
-missing p floor s n = count_below month_count (λ m. leb floor m && meets m s n && is_nothing (find_of p m))
+missing p floor s n = count_below month_count (λ m. leb floor m && meets m s n && is_none (find_of p m))

@@ -3,12 +3,11 @@
 
 mod layout;
 mod needed;
-mod numbers;
 mod putting;
 mod rates;
 mod sound;
 
 pub use needed::missing;
 pub use putting::put_run;
-pub use rates::{StoredRate, rate_at};
+pub use rates::rate_at;
 pub use sound::store_holds;

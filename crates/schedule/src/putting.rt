@@ -1,67 +1,36 @@
 // Putting the rates of consecutive slots into the blocks of their months, in the steps of `put_run`.
-ghost use Rattle.std.specs.Prelude.{◌≡◌, ◌+◌, ◌^◌, ◌≤◌, ◌<◌, length, replicate};
+ghost use Rattle.std.specs.Prelude.{◌≡◌, ◌+◌, ◌^◌, ◌≤◌, ◌<◌, length, None};
 ghost use Rattle.rules.specs.Calendar.{month_count};
-ghost use Rattle.rules.specs.Store.{block_length, store_length, no_rate, rate_bytes};
+ghost use Rattle.rules.specs.Store.{block_length, store_length};
 ghost use Rattle.pool.specs.Blocks.{find_of};
 ghost use Rattle.schedule.specs.Stored.{open_by, open_month, laid, put_piece, piece_in, put_run};
 ghost use Rattle.schedule.specs.Rates.{stored_of, piece_of, can_put_count, InStore};
 
 use crate::layout::SLOT_COUNT;
-use crate::numbers::{greater, lesser};
-use crate::rates::byte_of;
-use pool::{Found, Place, Pool};
+use pool::Pool;
 use rules::{BLOCK_LENGTH, NO_RATE, STORE_LENGTH};
-
-// Fills a whole slice with 255.
-fn blank(to: &mut [u8])
-    ensures { to.new ≡ replicate (length to.old) no_rate }
-{
-    let mut i = 0;
-    while i < to.len() {
-        to[i] = NO_RATE;
-        i += 1;
-    }
-}
-
-// Fills a whole slice with the bytes of rates.
-fn lay(to: &mut [u8], rates: &[u8])
-    requires { length to.old ≡ length rates.now }
-    ensures { to.new ≡ rate_bytes rates.now }
-{
-    let mut i = 0;
-    while i < rates.len() {
-        to[i] = byte_of(rates[i]);
-        i += 1;
-    }
-}
 
 // A pool, and the block that a month has in it.
 #[derive(Clone, Copy)]
 struct Opened {
     pool: Pool,
-    block: Found,
+    block: Option<usize>,
 }
 
 // 'A block newly taken is filled with 255 first'.
 fn take_block(pool: Pool, month: u16, store: &mut [u8]) -> Opened
-    requires { (length store.old ≡ store_length) × (find_of pool month ≡ Found.Nothing) }
-    ensures { (stored_of result.pool store.new ≡ open_by Found.Nothing month (stored_of pool store.old)) × (result.block ≡ find_of result.pool month) }
+    requires { (length store.old ≡ store_length) × (find_of pool month ≡ None) }
+    ensures { (stored_of result.pool store.new ≡ open_by None month (stored_of pool store.old)) × (result.block ≡ find_of result.pool month) }
 {
     let taken = pool.take(month);
-    let place = taken.place;
-    let pool = taken.pool;
-    match place {
-        Place::In(b) => {
-            let at = b * BLOCK_LENGTH;
-            let end = at + BLOCK_LENGTH;
-            blank(&mut store[at..end]);
-            let block = Found::At(b);
-            Opened { pool, block }
-        }
-        Place::Full => {
-            let block = Found::Nothing;
-            Opened { pool, block }
-        }
+    if let Some(b) = taken.place {
+        let at = b * BLOCK_LENGTH;
+        let end = at + BLOCK_LENGTH;
+        store[at..end].fill(NO_RATE);
+    }
+    Opened {
+        pool: taken.pool,
+        block: taken.place,
     }
 }
 
@@ -72,23 +41,20 @@ fn open_month(pool: Pool, month: u16, store: &mut [u8]) -> Opened
 {
     let block = pool.find(month);
     match block {
-        Found::At(_) => Opened { pool, block },
-        Found::Nothing => take_block(pool, month, store),
+        Some(_) => Opened { pool, block },
+        None => take_block(pool, month, store),
     }
 }
 
-// 'Byte i is the rate of its slot i': the rates of the block's slots from `from` on.
-fn lay_piece(block: Found, from: usize, rates: &[u8], store: &mut [u8])
+// 'Byte i is the rate of its slot i': the rates of the block's slots from `from` on, each its own byte.
+fn lay_piece(block: Option<usize>, from: usize, rates: &[u8], store: &mut [u8])
     requires { (length store.old ≡ store_length) × (from + length rates.now ≤ block_length) × InStore block }
     ensures { store.new ≡ laid block from rates.now store.old }
 {
-    match block {
-        Found::At(b) => {
-            let at = b * BLOCK_LENGTH + from;
-            let end = at + rates.len();
-            lay(&mut store[at..end], rates)
-        }
-        Found::Nothing => {}
+    if let Some(b) = block {
+        let at = b * BLOCK_LENGTH + from;
+        let end = at + rates.len();
+        store[at..end].copy_from_slice(rates);
     }
 }
 
@@ -107,8 +73,7 @@ fn put_piece(
     let lowest = floor;
     if (lowest <= month) & (0 < rates.len()) {
         let opened = open_month(pool, month, store);
-        let block = opened.block;
-        lay_piece(block, from, rates, store);
+        lay_piece(opened.block, from, rates, store);
         opened.pool
     } else {
         pool
@@ -122,11 +87,8 @@ fn put_month(pool: Pool, floor: u16, month: u16, slot: u32, rates: &[u8], store:
 {
     let start = slot as usize;
     let first = calendar::first_slot(month) as usize;
-    let low = greater(start, first);
-    let high = lesser(
-        start + rates.len(),
-        calendar::first_slot(month + 1) as usize,
-    );
+    let low = start.max(first);
+    let high = (start + rates.len()).min(calendar::first_slot(month + 1) as usize);
     if low < high {
         let a = low - start;
         let e = high - start;

@@ -23,10 +23,8 @@ fn all_lawful(s: &[u8]) -> bool
     ensures { result ≡ all lawful_byte s.now }
 {
     let mut worst: u8 = 0;
-    let mut i = 0;
-    while i < s.len() {
-        worst = digits::greater(worst, rank(s[i]));
-        i += 1;
+    for x in s {
+        worst = worst.max(rank(*x));
     }
     worst <= HIGHEST_RANK
 }
@@ -36,10 +34,8 @@ fn all_blank(s: &[u8]) -> bool
     ensures { result ≡ all blank_byte s.now }
 {
     let mut good = true;
-    let mut i = 0;
-    while i < s.len() {
-        good = good & (s[i] == NO_RATE);
-        i += 1;
+    for x in s {
+        good = good & (*x == NO_RATE);
     }
     good
 }
@@ -58,13 +54,12 @@ fn place_holds(pool: Pool, b: usize, store: &[u8]) -> bool
     requires { (b < block_count) × (length store.now ≡ store_length) }
     ensures { result ≡ place_holds pool store.now b }
 {
-    if (pool.free >> b) % 2 == 1 {
+    if pool.is_free(b) {
         return true;
     }
-    let months = pool.months;
     let at = b * BLOCK_LENGTH;
     let end = at + BLOCK_LENGTH;
-    block_holds(months[b], &store[at..end])
+    block_holds(pool.months[b], &store[at..end])
 }
 
 // Whether the store has its length, and each held block is sound.
@@ -75,10 +70,8 @@ pub fn store_holds(pool: Pool, store: &[u8]) -> bool
         return false;
     }
     let mut good = true;
-    let mut b = 0;
-    while b < BLOCK_COUNT {
+    for b in 0..BLOCK_COUNT {
         good = place_holds(pool, b, store) & good;
-        b += 1;
     }
     good
 }

@@ -1,10 +1,9 @@
 -- What a line asks for, by its first word and the number of its words; 'anything else -> unknown'.
-use Rattle.std.specs.Prelude.{ℕ, Bool, true, cond, ◌&&◌, List, [], ◌∷◌, leb, eqb}
+use Rattle.std.specs.Prelude.{ℕ, Bool, true, cond, ◌&&◌, List, [], ◌∷◌, leb, eqb, Option, Some, None}
 use Rattle.rules.specs.Digits.{same_bytes}
 use Rattle.rules.specs.declared.Kind.{Kind}
 use Rattle.script_words.specs.Words.{word_at, word_count}
 use Rattle.script_words.specs.Number.{number_of}
-use Rattle.script_words.specs.declared.number.Number.{Number}
 use Rattle.script.specs.declared.ask.Ask.{Ask}
 use Rattle.script.specs.declared.ask.Taken.{Taken}
 
@@ -63,43 +62,43 @@ fixed_word = 102 ∷ 105 ∷ 120 ∷ 101 ∷ 100 ∷ []
 
 -- ---- the numbers of a call
 
-abbrev pub tick_ask : Number → Ask
-tick_ask (Number.Value t) = Ask.Tick t
-tick_ask Number.Broken = Ask.Unknown
+abbrev pub tick_ask : Option ℕ → Ask
+tick_ask (Some t) = Ask.Tick t
+tick_ask None = Ask.Unknown
 
-abbrev pub ceiling_ask : Number → Ask
-ceiling_ask (Number.Value slot) = Ask.Ceiling slot
-ceiling_ask Number.Broken = Ask.Unknown
+abbrev pub ceiling_ask : Option ℕ → Ask
+ceiling_ask (Some slot) = Ask.Ceiling slot
+ceiling_ask None = Ask.Unknown
 
-abbrev pub block_ask : Number → Ask
-block_ask (Number.Value month) = Ask.Block month
-block_ask Number.Broken = Ask.Unknown
+abbrev pub block_ask : Option ℕ → Ask
+block_ask (Some month) = Ask.Block month
+block_ask None = Ask.Unknown
 
 -- 'LENGTH above 32768, BYTE or VALUE above 255: `unknown`'
-abbrev pub store_ask : Number → Number → Ask
-store_ask (Number.Value length) (Number.Value byte) = cond (leb length 32768 && leb byte 255) (Ask.Store length byte) Ask.Unknown
-store_ask (Number.Value length) Number.Broken = Ask.Unknown
-store_ask Number.Broken byte = Ask.Unknown
+abbrev pub store_ask : Option ℕ → Option ℕ → Ask
+store_ask (Some length) (Some byte) = cond (leb length 32768 && leb byte 255) (Ask.Store length byte) Ask.Unknown
+store_ask (Some length) None = Ask.Unknown
+store_ask None byte = Ask.Unknown
 
-abbrev pub byte_ask : Number → Number → Ask
-byte_ask (Number.Value index) (Number.Value value) = cond (leb value 255) (Ask.Byte index value) Ask.Unknown
-byte_ask (Number.Value index) Number.Broken = Ask.Unknown
-byte_ask Number.Broken value = Ask.Unknown
+abbrev pub byte_ask : Option ℕ → Option ℕ → Ask
+byte_ask (Some index) (Some value) = cond (leb value 255) (Ask.Byte index value) Ask.Unknown
+byte_ask (Some index) None = Ask.Unknown
+byte_ask None value = Ask.Unknown
 
-abbrev pub status_ask : Kind → Number → Ask
-status_ask kind (Number.Value status) = Ask.Failure kind status
-status_ask kind Number.Broken = Ask.Unknown
+abbrev pub status_ask : Kind → Option ℕ → Ask
+status_ask kind (Some status) = Ask.Failure kind status
+status_ask kind None = Ask.Unknown
 
-abbrev pub failure_ask : List ℕ → Number → Ask
+abbrev pub failure_ask : List ℕ → Option ℕ → Ask
 failure_ask kind status =
     cond (same_bytes kind update_word) (status_ask Kind.Update status)
     (cond (same_bytes kind fixed_word) (status_ask Kind.Fixed status) Ask.Unknown)
 
-abbrev pub install_ask : Number → Number → Number → Ask
-install_ask (Number.Value panel) (Number.Value inverter) (Number.Value minutes) = Ask.Install (record { panel = panel; inverter = inverter; minutes = minutes })
-install_ask (Number.Value panel) (Number.Value inverter) Number.Broken = Ask.Unknown
-install_ask (Number.Value panel) Number.Broken minutes = Ask.Unknown
-install_ask Number.Broken inverter minutes = Ask.Unknown
+abbrev pub install_ask : Option ℕ → Option ℕ → Option ℕ → Ask
+install_ask (Some panel) (Some inverter) (Some minutes) = Ask.Install (record { panel = panel; inverter = inverter; minutes = minutes })
+install_ask (Some panel) (Some inverter) None = Ask.Unknown
+install_ask (Some panel) None minutes = Ask.Unknown
+install_ask None inverter minutes = Ask.Unknown
 
 -- ---- lines of one, two, three and six words
 

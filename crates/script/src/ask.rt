@@ -1,13 +1,15 @@
 // What a line asks for, by its first word and the number of its words.
-ghost use Rattle.std.specs.Prelude.{◌≡◌};
-ghost use Rattle.script.specs.Ask.{tick_ask, ceiling_ask, block_ask, store_ask, byte_ask, status_ask, failure_ask, install_ask, ask_one, ask_two, ask_three, ask_six, is_silent, ask_of};
+ghost use Rattle.std.specs.Prelude.{◌≡◌, false, unwrap_or};
+ghost use Rattle.script_words.specs.Number.{number_of};
+ghost use Rattle.script.specs.Ask.{store_ask, byte_ask, failure_ask, ask_one, ask_two, ask_three, ask_six, is_silent, ask_of};
+ghost use Rattle.script.specs.declared.ask.Ask.{Ask as AskOf};
 
 use plant::GivenSettings;
 use rules::Kind;
-use script_words::{Number, number_of, word, word_count};
+use script_words::{number_of, word, word_count};
 
 // What is taken: a file by its name and body, or a whole response by its boundary and bytes.
-#[derive(Clone, Copy)]
+#[derive(Clone, Copy, Debug, PartialEq, Eq)]
 pub enum Taken {
     File,
     Response,
@@ -42,177 +44,128 @@ const HIGHEST_BYTE: u64 = 255;
 
 const COMMENT: u8 = b'#';
 
-fn tick_ask(t: Number) -> Ask
-    ensures { result ≡ tick_ask t }
-{
-    match t {
-        Number::Value(t) => Ask::Tick(t),
-        Number::Broken => Ask::Unknown,
-    }
-}
+// Each part below answers nothing for a line that is `unknown`: `ask_of` says so in one place.
 
-fn ceiling_ask(slot: Number) -> Ask
-    ensures { result ≡ ceiling_ask slot }
+// A store filled with one byte: 'LENGTH above 32768, BYTE or VALUE above 255: `unknown`'.
+fn store_ask(length: &[u8], byte: &[u8]) -> Option<Ask>
+    ensures { unwrap_or result AskOf.Unknown ≡ store_ask (number_of length.now) (number_of byte.now) }
 {
-    match slot {
-        Number::Value(slot) => Ask::Ceiling(slot),
-        Number::Broken => Ask::Unknown,
-    }
-}
-
-fn block_ask(month: Number) -> Ask
-    ensures { result ≡ block_ask month }
-{
-    match month {
-        Number::Value(month) => Ask::Block(month),
-        Number::Broken => Ask::Unknown,
-    }
-}
-
-fn store_ask(length: Number, byte: Number) -> Ask
-    ensures { result ≡ store_ask length byte }
-{
-    let Number::Value(length) = length else {
-        return Ask::Unknown;
-    };
-    let Number::Value(byte) = byte else {
-        return Ask::Unknown;
-    };
+    let length = number_of(length)?;
+    let byte = number_of(byte)?;
     if LONGEST_STORE < length {
-        return Ask::Unknown;
+        return None;
     }
     if HIGHEST_BYTE < byte {
-        return Ask::Unknown;
+        return None;
     }
-    Ask::Store(length as usize, byte as u8)
+    Some(Ask::Store(length as usize, byte as u8))
 }
 
-fn byte_ask(index: Number, value: Number) -> Ask
-    ensures { result ≡ byte_ask index value }
+// A byte of the store.
+fn byte_ask(index: &[u8], value: &[u8]) -> Option<Ask>
+    ensures { unwrap_or result AskOf.Unknown ≡ byte_ask (number_of index.now) (number_of value.now) }
 {
-    let Number::Value(index) = index else {
-        return Ask::Unknown;
-    };
-    let Number::Value(value) = value else {
-        return Ask::Unknown;
-    };
+    let index = number_of(index)?;
+    let value = number_of(value)?;
     if HIGHEST_BYTE < value {
-        return Ask::Unknown;
+        return None;
     }
-    Ask::Byte(index, value as u8)
+    Some(Ask::Byte(index, value as u8))
 }
 
-fn status_ask(kind: Kind, status: Number) -> Ask
-    ensures { result ≡ status_ask kind status }
+// A failure of that kind.
+fn failure_ask(kind: &[u8], status: &[u8]) -> Option<Ask>
+    ensures { unwrap_or result AskOf.Unknown ≡ failure_ask kind.now (number_of status.now) }
 {
-    match status {
-        Number::Value(status) => Ask::Failure(kind, status),
-        Number::Broken => Ask::Unknown,
-    }
-}
-
-fn failure_ask(kind: &[u8], status: Number) -> Ask
-    ensures { result ≡ failure_ask kind.now status }
-{
+    let status = number_of(status)?;
     if digits::same(kind, b"update") {
-        return status_ask(Kind::Update, status);
+        return Some(Ask::Failure(Kind::Update, status));
     }
     if digits::same(kind, b"fixed") {
-        return status_ask(Kind::Fixed, status);
+        return Some(Ask::Failure(Kind::Fixed, status));
     }
-    Ask::Unknown
-}
-
-fn install_ask(panel: Number, inverter: Number, minutes: Number) -> Ask
-    ensures { result ≡ install_ask panel inverter minutes }
-{
-    let Number::Value(panel) = panel else {
-        return Ask::Unknown;
-    };
-    let Number::Value(inverter) = inverter else {
-        return Ask::Unknown;
-    };
-    let Number::Value(minutes) = minutes else {
-        return Ask::Unknown;
-    };
-    Ask::Install(GivenSettings {
-        panel,
-        inverter,
-        minutes,
-    })
+    None
 }
 
 // A line of one word.
-fn ask_one(call: &[u8]) -> Ask
-    ensures { result ≡ ask_one call.now }
+#[tactic(auto, unfolding(crate::specs::Ask::ask_one))]
+fn ask_one(call: &[u8]) -> Option<Ask>
+    ensures { unwrap_or result AskOf.Unknown ≡ ask_one call.now }
 {
     if digits::same(call, b"lost") {
-        return Ask::Lost;
+        return Some(Ask::Lost);
     }
     if digits::same(call, b"due") {
-        return Ask::Due;
+        return Some(Ask::Due);
     }
     if digits::same(call, b"command") {
-        return Ask::Command;
+        return Some(Ask::Command);
     }
     if digits::same(call, b"free") {
-        return Ask::Free;
+        return Some(Ask::Free);
     }
     if digits::same(call, b"state") {
-        return Ask::State;
+        return Some(Ask::State);
     }
-    Ask::Unknown
+    None
 }
 
 // A line of two words.
-fn ask_two(call: &[u8], first: &[u8]) -> Ask
-    ensures { result ≡ ask_two call.now first.now }
+#[tactic(auto, unfolding(crate::specs::Ask::ask_two))]
+fn ask_two(call: &[u8], first: &[u8]) -> Option<Ask>
+    ensures { unwrap_or result AskOf.Unknown ≡ ask_two call.now first.now }
 {
     if digits::same(call, b"tick") {
-        return tick_ask(number_of(first));
+        return Some(Ask::Tick(number_of(first)?));
     }
     if digits::same(call, b"ceiling") {
-        return ceiling_ask(number_of(first));
+        return Some(Ask::Ceiling(number_of(first)?));
     }
     if digits::same(call, b"request") {
-        return Ask::Request;
+        return Some(Ask::Request);
     }
     if digits::same(call, b"block") {
-        return block_ask(number_of(first));
+        return Some(Ask::Block(number_of(first)?));
     }
-    Ask::Unknown
+    None
 }
 
 // A line of three words.
-fn ask_three(call: &[u8], first: &[u8], second: &[u8]) -> Ask
-    ensures { result ≡ ask_three call.now first.now second.now }
+#[tactic(auto, unfolding(crate::specs::Ask::ask_three))]
+fn ask_three(call: &[u8], first: &[u8], second: &[u8]) -> Option<Ask>
+    ensures { unwrap_or result AskOf.Unknown ≡ ask_three call.now first.now second.now }
 {
     if digits::same(call, b"store") {
-        return store_ask(number_of(first), number_of(second));
+        return store_ask(first, second);
     }
     if digits::same(call, b"take") {
-        return Ask::Take(Taken::File);
+        return Some(Ask::Take(Taken::File));
     }
     if digits::same(call, b"response") {
-        return Ask::Take(Taken::Response);
+        return Some(Ask::Take(Taken::Response));
     }
     if digits::same(call, b"failure") {
-        return failure_ask(first, number_of(second));
+        return failure_ask(first, second);
     }
     if digits::same(call, b"byte") {
-        return byte_ask(number_of(first), number_of(second));
+        return byte_ask(first, second);
     }
-    Ask::Unknown
+    None
 }
 
 // A line of six words.
-fn ask_six(call: &[u8], panel: &[u8], inverter: &[u8], minutes: &[u8]) -> Ask
-    ensures { result ≡ ask_six call.now panel.now inverter.now minutes.now }
+#[tactic(auto, unfolding(crate::specs::Ask::ask_six))]
+fn ask_six(call: &[u8], panel: &[u8], inverter: &[u8], minutes: &[u8]) -> Option<Ask>
+    ensures { unwrap_or result AskOf.Unknown ≡ ask_six call.now panel.now inverter.now minutes.now }
 {
-    if digits::same(call, b"install") {
-        return install_ask(number_of(panel), number_of(inverter), number_of(minutes));
+    if !digits::same(call, b"install") {
+        return None;
     }
-    Ask::Unknown
+    Some(Ask::Install(GivenSettings {
+        panel: number_of(panel)?,
+        inverter: number_of(inverter)?,
+        minutes: number_of(minutes)?,
+    }))
 }
 
 // Whether a line answers nothing: 'an empty line and one that begins with #'.
@@ -228,24 +181,27 @@ fn is_silent(line: &[u8]) -> bool
 // `install` and what it is given.
 const INSTALL_WORDS: usize = 6;
 
+// The call of a line that is not silent, by its number of words.
+#[tactic(auto, unfolding(crate::specs::Ask::ask_of))]
+fn call_of(line: &[u8]) -> Option<Ask>
+    requires { is_silent line.now ≡ false }
+    ensures { unwrap_or result AskOf.Unknown ≡ ask_of line.now }
+{
+    match word_count(line) {
+        1 => ask_one(word(line, 0)),
+        2 => ask_two(word(line, 0), word(line, 1)),
+        3 => ask_three(word(line, 0), word(line, 1), word(line, 2)),
+        INSTALL_WORDS => ask_six(word(line, 0), word(line, 3), word(line, 4), word(line, 5)),
+        _ => None,
+    }
+}
+
+#[tactic(auto, unfolding(crate::specs::Ask::ask_of))]
 pub fn ask_of(line: &[u8]) -> Ask
     ensures { result ≡ ask_of line.now }
 {
     if is_silent(line) {
         return Ask::Nothing;
     }
-    let count = word_count(line);
-    if count == 1 {
-        return ask_one(word(line, 0));
-    }
-    if count == 2 {
-        return ask_two(word(line, 0), word(line, 1));
-    }
-    if count == 3 {
-        return ask_three(word(line, 0), word(line, 1), word(line, 2));
-    }
-    if count == INSTALL_WORDS {
-        return ask_six(word(line, 0), word(line, 3), word(line, 4), word(line, 5));
-    }
-    Ask::Unknown
+    call_of(line).unwrap_or(Ask::Unknown)
 }

@@ -1,45 +1,47 @@
 -- Laws of hex digits: digits tested and read pair by pair, and bytes spelt in pairs of digits.
-use Prim.Native.Nat.{ℕ, zero, suc, ◌+◌, ◌-◌, ◌*◌, ◌/◌, ◌%◌, ◌≤◌, ◌<◌}
-use mathlib.Core.Path.{◌≡◌, ◌∙◌, refl, sym, ap}
-use mathlib.Core.Bool.{Bool, true, ◌&&◌, and_assoc, false≢true}
+use Rattle.std.specs.Prelude.{is_some}
+use Prim.Native.Nat.{ℕ, zero, suc, ◌+◌, ◌*◌, ◌/◌, ◌%◌, ◌≤◌, ◌<◌}
+use mathlib.Core.Path.{◌≡◌, ◌∙◌, refl, sym}
+use mathlib.Core.Bool.{Bool, true, ◌&&◌, false, and-true, and-false}
 use mathlib.Core.List.{List, [], ◌∷◌}
 use native.Mathlib.Omega.{arith}
-use borrow.Author.Tests.{ltb-true}
-use lib.Dec.{ltb, eqb}
-use lib.ListN.{length, get_or, take, drop}
+use lib.Dec.{eqb}
+use lib.ListN.{length, get_or, drop, drop_of_length-le}
+use Rattle.std.specs.List.{list_all}
+use Rattle.std.proofs.lemmas.List.Elements.{All-get_or}
+use Rattle.std.proofs.lemmas.List.Sums.{AllPass-from_list_all}
 use Rattle.laws.proofs.Tests.{both}
-use Rattle.laws.proofs.Bytes.{part-rest}
-use Rattle.script_fields.specs.Hex.{nibble, is_hex_digit, all_hex, hex_bytes, glyph, hex_text}
+use Rattle.script_fields.specs.Hex.{nibble, value, is_hex_digit, all_hex, hex_bytes, glyph, hex_text}
 
--- ---- the test of a pair more
+-- ---- the test, pair by pair and digit by digit
 
-pub hex-more : (all : Bool) (t : List ℕ) {a b : ℕ} → 2 ≤ length t → a ≡ nibble (get_or t 0 0) → b ≡ nibble (get_or t 1 0)
-    → (all && all_hex t) ≡ (((all && ltb a 16) && ltb b 16) && all_hex (take (length t - 2) (drop 2 t)))
+four : (a b c d : Bool) → ((a && b) && (c && d)) ≡ ((a && (b && c)) && d)
+four true true c d = refl
+four true false c d = refl
+four false b c d = refl
+
+pub hex-pairs : (s : List ℕ) → all_hex s ≡ (list_all is_hex_digit s && eqb (length s % 2) 0)
 unfolding all_hex
-hex-more all [] h e f = absurd (omega arith)
-hex-more all (x ∷ []) h e f = absurd (omega arith)
-hex-more all (x ∷ y ∷ t) h e f =
-    rw (e, f, part-rest (x ∷ y ∷ t) 2)
-    (sym
-    (and_assoc (all && is_hex_digit x) (is_hex_digit y) (all_hex t)
-    ∙ and_assoc all (is_hex_digit x) (is_hex_digit y && all_hex t)
-    ∙ ap (λ (b : Bool). all && b) (sym (and_assoc (is_hex_digit x) (is_hex_digit y) (all_hex t)))))
+hex-pairs [] = refl
+hex-pairs (x ∷ []) = sym (and-false _)
+hex-pairs (x ∷ y ∷ s) =
+    let e : suc (suc (length s)) % 2 ≡ length s % 2 = omega arith in
+    rw (hex-pairs s, e) (four (is_hex_digit x) (is_hex_digit y) (list_all is_hex_digit s) (eqb (length s % 2) 0))
 
-pub hex-ends : (all : Bool) (t : List ℕ) → length t < 2 → (all && all_hex t) ≡ (all && eqb (length t) 0)
-unfolding all_hex
-hex-ends all [] h = refl
-hex-ends all (x ∷ []) h = refl
-hex-ends all (x ∷ y ∷ t) h = absurd (omega arith)
+-- the flag once every digit is tested
+pub hex-ends : (all : Bool) (s : List ℕ) (i : ℕ) → length s ≤ i → list_all is_hex_digit s ≡ (all && list_all is_hex_digit (drop i s))
+    → all_hex s ≡ (all && eqb (length s % 2) 0)
+hex-ends all s i h e =
+    let f : list_all is_hex_digit s ≡ all = e ∙ rw drop_of_length-le (and-true all) in
+    rw (hex-pairs s, f) refl
 
 -- ---- what the test says
 
-pub hex-digit : (s : List ℕ) (k : ℕ) → all_hex s ≡ true → k < length s → nibble (get_or s k 0) < 16
-unfolding all_hex
-hex-digit [] k e h = absurd (omega arith)
-hex-digit (x ∷ []) k e h = absurd (false≢true e)
-hex-digit (x ∷ y ∷ s) zero e h = ltb-true (nibble x) 16 (both (is_hex_digit x) (is_hex_digit y) (both (is_hex_digit x && is_hex_digit y) (all_hex s) e).0).0
-hex-digit (x ∷ y ∷ s) (suc zero) e h = ltb-true (nibble y) 16 (both (is_hex_digit x) (is_hex_digit y) (both (is_hex_digit x && is_hex_digit y) (all_hex s) e).0).1
-hex-digit (x ∷ y ∷ s) (suc (suc k)) e h = hex-digit s k (both (is_hex_digit x && is_hex_digit y) (all_hex s) e).1 (omega arith)
+pub hex-digit : (s : List ℕ) (k : ℕ) → all_hex s ≡ true → k < length s → is_some (nibble (get_or s k 0)) ≡ true
+hex-digit s k e h =
+    let parts = both (list_all is_hex_digit s) (eqb (length s % 2) 0) (sym (hex-pairs s) ∙ e) in
+    let digits = AllPass-from_list_all is_hex_digit s parts.0 in
+    All-get_or (λ x. is_hex_digit x ≡ true) s k 0 h digits
 
 -- ---- the bytes
 
@@ -49,7 +51,7 @@ hex-length [] = refl
 hex-length (x ∷ []) = refl
 hex-length (x ∷ y ∷ s) = omega (arith, hex-length s)
 
-pub hex-byte : (s : List ℕ) (i : ℕ) → i < length s / 2 → get_or (hex_bytes s) i 0 ≡ nibble (get_or s (2 * i) 0) * 16 + nibble (get_or s (2 * i + 1) 0)
+pub hex-byte : (s : List ℕ) (i : ℕ) → i < length s / 2 → get_or (hex_bytes s) i 0 ≡ value (get_or s (2 * i) 0) * 16 + value (get_or s (2 * i + 1) 0)
 unfolding hex_bytes
 hex-byte [] i h = absurd (omega arith)
 hex-byte (x ∷ []) i h = absurd (omega arith)

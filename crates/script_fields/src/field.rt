@@ -3,13 +3,6 @@ ghost use Rattle.std.specs.Prelude.{◌≡◌, map, ◌≤◌, length};
 ghost use Rattle.std.proofs.Math.Seq.{paste};
 ghost use Rattle.script_fields.specs.Field.{marked, plain_byte, hex_field, plain_field, bytes_field, digits_field, body_field, field_in, buffer_with};
 
-// How many bytes a word stands for, or that it stands for none.
-#[derive(Clone, Copy)]
-pub enum Field {
-    Length(usize),
-    Broken,
-}
-
 const MARK: [u8; 4] = *b"hex:";
 
 // Whether a word begins with `hex:`.
@@ -23,19 +16,19 @@ fn is_marked(word: &[u8]) -> bool
 }
 
 // Puts the bytes of hex digits into the buffer's first bytes.
-fn unhex(digits: &[u8], out: &mut [u8]) -> Field
+fn unhex(digits: &[u8], out: &mut [u8]) -> Option<usize>
     ensures answer { result ≡ field_in (length out.old) (hex_field digits.now) }
     ensures buffer { out.new ≡ buffer_with (hex_field digits.now) out.old }
 {
     if !crate::hex::is_hex(digits) {
-        return Field::Broken;
+        return None;
     }
     let count = digits.len() / 2;
     if out.len() < count {
-        return Field::Broken;
+        return None;
     }
     crate::hex::put_bytes(digits, out);
-    Field::Length(count)
+    Some(count)
 }
 
 // A byte of a plain word; of a plain ID 0-9 are their values.
@@ -54,15 +47,13 @@ fn put_plain(word: &[u8], digits: bool, out: &mut [u8])
     requires { length word.now ≤ length out.old }
     ensures { out.new ≡ paste out.old 0 (map (plain_byte digits) word.now) (length word.now) }
 {
-    let mut i = 0;
-    while i < word.len() {
-        out[i] = plain_byte(word[i], digits);
-        i += 1;
+    for (i, &x) in word.iter().enumerate() {
+        out[i] = plain_byte(x, digits);
     }
 }
 
 // The bytes of a word, plain or marked.
-fn either(word: &[u8], digits: bool, out: &mut [u8]) -> Field
+fn either(word: &[u8], digits: bool, out: &mut [u8]) -> Option<usize>
     ensures answer { result ≡ field_in (length out.old) (plain_field digits word.now) }
     ensures buffer { out.new ≡ buffer_with (plain_field digits word.now) out.old }
 {
@@ -70,18 +61,18 @@ fn either(word: &[u8], digits: bool, out: &mut [u8]) -> Field
         return unhex(&word[4..], out);
     }
     if word.len() == 0 {
-        return Field::Broken;
+        return None;
     }
     if out.len() < word.len() {
-        return Field::Broken;
+        return None;
     }
     put_plain(word, digits, out);
-    Field::Length(word.len())
+    Some(word.len())
 }
 
 // The bytes of a MAC, a NAME, a BOUNDARY or a SEGMENT in the buffer's first bytes, and how many they are. A broken word, and one that stands
 // for more bytes than the buffer has, leaves the buffer as it was.
-pub fn bytes_of(word: &[u8], out: &mut [u8]) -> Field
+pub fn bytes_of(word: &[u8], out: &mut [u8]) -> Option<usize>
     ensures answer { result ≡ field_in (length out.old) (bytes_field word.now) }
     ensures buffer { out.new ≡ buffer_with (bytes_field word.now) out.old }
 {
@@ -89,7 +80,7 @@ pub fn bytes_of(word: &[u8], out: &mut [u8]) -> Field
 }
 
 // The same for an ID.
-pub fn digits_of(word: &[u8], out: &mut [u8]) -> Field
+pub fn digits_of(word: &[u8], out: &mut [u8]) -> Option<usize>
     ensures answer { result ≡ field_in (length out.old) (digits_field word.now) }
     ensures buffer { out.new ≡ buffer_with (digits_field word.now) out.old }
 {
@@ -97,15 +88,15 @@ pub fn digits_of(word: &[u8], out: &mut [u8]) -> Field
 }
 
 // The same for a body or a response: its hex digits, or `-` for none.
-pub fn hex_of(word: &[u8], out: &mut [u8]) -> Field
+pub fn hex_of(word: &[u8], out: &mut [u8]) -> Option<usize>
     ensures answer { result ≡ field_in (length out.old) (body_field word.now) }
     ensures buffer { out.new ≡ buffer_with (body_field word.now) out.old }
 {
     if digits::same(word, b"-") {
-        return Field::Length(0);
+        return Some(0);
     }
     if word.len() == 0 {
-        return Field::Broken;
+        return None;
     }
     unhex(word, out)
 }

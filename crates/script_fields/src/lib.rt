@@ -5,5 +5,5 @@ mod field;
 mod hex;
 mod put;
 
-pub use field::{Field, bytes_of, digits_of, hex_of};
+pub use field::{bytes_of, digits_of, hex_of};
 pub use put::{put_hex, put_number, put_text};

@@ -5,29 +5,14 @@ ghost use Rattle.rules.specs.Lister.{numeral};
 ghost use Rattle.script_fields.specs.Hex.{hex_text};
 ghost use Rattle.script_fields.specs.Put.{place_after, buffer_after};
 
-// Puts bytes from a place on.
-fn copy(text: &[u8], out: &mut [u8], at: usize)
-    requires { at + length text.now ≤ length out.old }
-    ensures { out.new ≡ paste out.old at text.now (length text.now) }
-{
-    let mut i = 0;
-    while i < text.len() {
-        out[at + i] = text[i];
-        i += 1;
-    }
-}
-
 // Puts the hex digits of bytes from a place on.
 fn copy_hex(bytes: &[u8], out: &mut [u8], at: usize)
     requires { at + 2 * length bytes.now ≤ length out.old }
     ensures { out.new ≡ paste out.old at (hex_text bytes.now) (2 * length bytes.now) }
 {
-    let mut i = 0;
-    while i < bytes.len() {
-        let x = bytes[i];
+    for (i, &x) in bytes.iter().enumerate() {
         out[at + 2 * i] = crate::hex::glyph(x / 16);
         out[at + 2 * i + 1] = crate::hex::glyph(x % 16);
-        i += 1;
     }
 }
 
@@ -42,7 +27,8 @@ pub fn put_text(out: &mut [u8], at: usize, text: &[u8]) -> usize
     if out.len() - at < text.len() {
         return at;
     }
-    copy(text, out, at);
+    let start = at;
+    out[start..start + text.len()].copy_from_slice(text);
     at + text.len()
 }
 

@@ -1,4 +1,5 @@
 -- Laws of a number read digit by digit.
+use Rattle.std.specs.Prelude.{Some, None}
 use Prim.Native.Nat.{ℕ, ◌+◌, ◌-◌, ◌*◌, ◌/◌, ◌≤◌, ◌<◌}
 use mathlib.Core.Path.{◌≡◌, ◌∙◌, refl, ap}
 use mathlib.Core.List.{List, [], ◌∷◌}
@@ -7,56 +8,55 @@ use borrow.Author.Tests.{le-leb, lt-leb}
 use lib.ListN.{length, get_or, drop, drop_of_length-le}
 use Rattle.laws.proofs.Bytes.{at_next}
 use Rattle.script_words.specs.Number.{highest, decimal_step, decimal_from, number_of}
-use Rattle.script_words.specs.declared.number.Number.{Number}
 
 -- ---- one digit more: it is one, and the number stays below 2 ^ 64
 
 module _ (n x : ℕ) where
-  pub no-digit-low : x < 48 → decimal_step n x ≡ Number.Broken
+  pub no-digit-low : x < 48 → decimal_step n x ≡ None
   unfolding decimal_step
   no-digit-low h = rw (lt-leb 48 x h) refl
 
   module _ (low : 48 ≤ x) where
-    pub no-digit-high : 57 < x → decimal_step n x ≡ Number.Broken
+    pub no-digit-high : 57 < x → decimal_step n x ≡ None
     unfolding decimal_step
     no-digit-high h = rw (le-leb 48 x low, lt-leb x 57 h) refl
 
     module _ (high : x ≤ 57) where
-      pub too_great : (highest - (x - 48)) / 10 < n → decimal_step n x ≡ Number.Broken
+      pub too_great : (highest - (x - 48)) / 10 < n → decimal_step n x ≡ None
       unfolding decimal_step
       too_great h = rw (le-leb 48 x low, le-leb x 57 high, lt-leb (n * 10 + (x - 48)) highest (omega arith)) refl
 
-      pub next-number : n ≤ (highest - (x - 48)) / 10 → decimal_step n x ≡ Number.Value (n * 10 + (x - 48))
+      pub next-number : n ≤ (highest - (x - 48)) / 10 → decimal_step n x ≡ Some (n * 10 + (x - 48))
       unfolding decimal_step
       next-number h = rw (le-leb 48 x low, le-leb x 57 high, le-leb (n * 10 + (x - 48)) highest (omega arith)) refl
 
 -- ---- the digits one after another
 
-pub broken-stays : (s : List ℕ) → decimal_from s Number.Broken ≡ Number.Broken
+pub broken-stays : (s : List ℕ) → decimal_from s None ≡ None
 unfolding decimal_from
 broken-stays [] = refl
 broken-stays (x ∷ s) = broken-stays s
 
-pub none-given : (s : List ℕ) → length s ≡ 0 → number_of s ≡ Number.Broken
+pub none-given : (s : List ℕ) → length s ≡ 0 → number_of s ≡ None
 unfolding number_of
 none-given [] h = refl
 none-given (x ∷ s) h = absurd (omega arith)
 
-pub some-given : (s : List ℕ) → (length s ≡ 0 → ⊥) → number_of s ≡ decimal_from s (Number.Value 0)
+pub some-given : (s : List ℕ) → (length s ≡ 0 → ⊥) → number_of s ≡ decimal_from s (Some 0)
 unfolding number_of
 some-given [] h = absurd (h refl)
 some-given (x ∷ s) h = refl
 
 module _ (s : List ℕ) (i n : ℕ) where
-  pub digit-more : {m : ℕ} → i < length s → decimal_step n (get_or s i 0) ≡ Number.Value m
-      → decimal_from (drop i s) (Number.Value n) ≡ decimal_from (drop (i + 1) s) (Number.Value m)
+  pub digit-more : {m : ℕ} → i < length s → decimal_step n (get_or s i 0) ≡ Some m
+      → decimal_from (drop i s) (Some n) ≡ decimal_from (drop (i + 1) s) (Some m)
   unfolding decimal_from
   digit-more h e = rw (at_next s i h) (ap (decimal_from (drop (i + 1) s)) e)
 
-  pub digit-none : i < length s → decimal_step n (get_or s i 0) ≡ Number.Broken → decimal_from (drop i s) (Number.Value n) ≡ Number.Broken
+  pub digit-none : i < length s → decimal_step n (get_or s i 0) ≡ None → decimal_from (drop i s) (Some n) ≡ None
   unfolding decimal_from
   digit-none h e = rw (at_next s i h) (ap (decimal_from (drop (i + 1) s)) e ∙ broken-stays (drop (i + 1) s))
 
-  pub digit-last : length s ≤ i → decimal_from (drop i s) (Number.Value n) ≡ Number.Value n
+  pub digit-last : length s ≤ i → decimal_from (drop i s) (Some n) ≡ Some n
   unfolding decimal_from
   digit-last h = rw drop_of_length-le refl

@@ -1,40 +1,38 @@
--- Laws of words: the place of a byte found step by step, spaces counted step by step, and the rest behind a word as a part of a slice.
+-- Laws of words: the first place of a byte and the count of spaces as the chains of `std` say them, and the rest behind a word as a part of a slice.
 use Prim.Native.Nat.{ℕ, zero, suc, ◌+◌, ◌-◌, ◌≤◌, ◌<◌, min}
 use mathlib.Core.Path.{◌≡◌, ◌∙◌, refl, ap}
 use mathlib.Core.List.{List}
+use native.Mathlib.Numerals.{add-one, one-add}
 use native.Mathlib.Omega.{arith}
 use borrow.Author.Tests.{eq-eqb, ne_eqb}
-use lib.ListN.{length, get_or, take, drop, drop_of_length-le}
-use Rattle.laws.proofs.Bytes.{at_next, drop-most, part-rest}
+use lib.Dec.{eqb}
+use lib.ListN.{length, take, drop}
+use Rattle.std.specs.List.{count_by, AllWithin, HoldsAt}
+use Rattle.std.specs.Option.{MatchOption, unwrap_or}
+use Rattle.std.proofs.Common.{Option, ◌≢◌}
+use Rattle.std.proofs.lemmas.Iterator.{index_from_first}
+use Rattle.std.proofs.lemmas.List.Recursion.{is_count_by}
+use Rattle.laws.proofs.Bytes.{drop-most, part-rest}
 use Rattle.script_words.specs.Words.{place_of, space, spaces, after_word, word_at}
 
--- ---- a loop that looks at one byte after another
+-- ---- what the chains of `std` say
 
-module _ (b : ℕ) (x : List ℕ) (i : ℕ) where
-  pub place-more : i < length x → (get_or x i 0 ≡ b → ⊥) → i + place_of b (drop i x) ≡ i + 1 + place_of b (drop (i + 1) x)
-  unfolding place_of
-  place-more h ne = rw (at_next x i h) (rw (ne_eqb (get_or x i 0) b ne) (omega arith))
+-- as `position` says it: no byte of x is b, or the one at i is the first
+abbrev pub IsFirst : ℕ → List ℕ → Option ℕ → Type 0
+IsFirst b x r =
+    let none : ℕ → Type 0 = λ n. AllWithin (λ y. y ≢ b) x 0 n in
+    MatchOption r (none (length x)) (λ i. (i < length x) × HoldsAt (λ y. y ≡ b) x i × none i)
 
-  pub place-stops : i < length x → get_or x i 0 ≡ b → i + place_of b (drop i x) ≡ i
-  unfolding place_of
-  place-stops h e = rw (at_next x i h) (rw (eq-eqb (get_or x i 0) b e) (omega arith))
+pub first-place : (b : ℕ) (x : List ℕ) (r : Option ℕ) → IsFirst b x r → place_of b x ≡ unwrap_or r (length x)
+unfolding place_of
+first-place b =
+    index_from_first (place_of b) (λ y. y ≡ b) (λ y. y ≢ b) refl
+    (λ y s e. rw (eq-eqb y b e) refl)
+    (λ y s ne. rw (ne_eqb y b ne, add-one) refl)
 
-  pub place-ends : length x ≤ i → i + place_of b (drop i x) ≡ i
-  unfolding place_of
-  place-ends h = rw drop_of_length-le (omega arith)
-
-module _ (x : List ℕ) (i n : ℕ) where
-  pub space-more : i < length x → get_or x i 0 ≡ 32 → n + spaces (drop i x) ≡ n + 1 + spaces (drop (i + 1) x)
-  unfolding spaces
-  space-more h e = rw (at_next x i h) (rw (eq-eqb (get_or x i 0) 32 e) (omega arith))
-
-  pub space-other : i < length x → (get_or x i 0 ≡ 32 → ⊥) → n + spaces (drop i x) ≡ n + spaces (drop (i + 1) x)
-  unfolding spaces
-  space-other h ne = rw (at_next x i h) (rw (ne_eqb (get_or x i 0) 32 ne) refl)
-
-  pub space-ends : length x ≤ i → n + spaces (drop i x) ≡ n
-  unfolding spaces
-  space-ends h = rw drop_of_length-le (omega arith)
+pub spaces-counted : (x : List ℕ) → spaces x ≡ count_by (λ y. eqb y space) x
+unfolding spaces
+spaces-counted x = is_count_by spaces (λ y. eqb y space) refl (λ y s. rw one-add refl) x
 
 -- ---- a word more
 
@@ -46,11 +44,10 @@ after-part t p k e f =
     ∙ drop-most (p + 1) t
     ∙ ap (λ (j : ℕ). drop (j + 1) t) e
 
-pub word_more : (n : ℕ) (t u : List ℕ) → 0 < n → u ≡ after_word t → word_at n t ≡ word_at (n - 1) u
+pub word_more : (k i : ℕ) (t u : List ℕ) → i < k → u ≡ after_word t → word_at (k - i) t ≡ word_at (k - (i + 1)) u
 unfolding word_at
-word_more zero t u h e = absurd (omega arith)
-word_more (suc n) t u h e =
-    let m : suc n - 1 ≡ n = omega arith in
+word_more k i t u h e =
+    let m : k - i ≡ suc (k - (i + 1)) = omega arith in
     rw (m, e) refl
 
 pub word-ends : (n : ℕ) (t : List ℕ) (p : ℕ) → n ≤ 0 → p ≡ place_of space t → word_at n t ≡ take p t

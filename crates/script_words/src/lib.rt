@@ -4,5 +4,5 @@
 mod number;
 mod words;
 
-pub use number::{Number, number_of};
+pub use number::number_of;
 pub use words::{place, word, word_count};

@@ -1,9 +1,9 @@
 -- What a unit may take from a file that it is to take: its records stand in the body's bytes, its segment is a number.
+use Rattle.std.specs.Prelude.{None, Some}
 use Prim.Native.Nat.{ℕ, ◌+◌, ◌-◌, ◌≤◌}
 use mathlib.Core.Path.{◌≡◌, ◌∙◌, refl, sym, ap, subst}
 use mathlib.Core.Bool.{Bool, true, false, cond, ◌&&◌}
 use mathlib.Core.List.{List, [], ◌∷◌}
-use mathlib.Core.Option.{none, some}
 use lib.ListN.{length, take, drop}
 use Rattle.rules.specs.Digits.{digits}
 use Rattle.rules.specs.Body.{Record, Body, schedule, count_of, parse_body, counted, is_schedule}
@@ -34,7 +34,7 @@ record Standing (f : Format) (body : List ℕ) (b : Body) : Type 0 where
   records : records_in b ≡ records_from f (record_count b) (drop 6 body)
   total : rate_count b ≡ total_rates (records_in b)
 
-standing : (f : Format) (body : List ℕ) (b : Body) → is_schedule f ≡ true → parse_body f body ≡ some b → Standing f body b
+standing : (f : Format) (body : List ℕ) (b : Body) → is_schedule f ≡ true → parse_body f body ≡ Some b → Standing f body b
 standing f body b i e = go (counted f body) refl (shaped f (count_of f) (drop 6 body)) refl (sym (parse_is f body i) ∙ e)
   where
     here : counted f body ≡ true → shaped f (count_of f) (drop 6 body) ≡ true
@@ -49,7 +49,7 @@ standing f body b i e = go (counted f body) refl (shaped f (count_of f) (drop 6 
         }
 
     go : (c : Bool) → counted f body ≡ c → (t : Bool) → shaped f (count_of f) (drop 6 body) ≡ t
-        → cond (c && t) (some (schedule (records_from f (count_of f) (drop 6 body)))) none ≡ some b → Standing f body b
+        → cond (c && t) (Some (schedule (records_from f (count_of f) (drop 6 body)))) None ≡ Some b → Standing f body b
     go true c true t q =
         let same : schedule (records_from f (count_of f) (drop 6 body)) ≡ b = cc in
         subst (λ (x : Body). Standing f body x) same (here c t (records_from f (count_of f) (drop 6 body)) refl)

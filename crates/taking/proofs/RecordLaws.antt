@@ -1,5 +1,5 @@
 -- Laws of the walk that puts records: one record on, and what is put of it.
-use Prim.Native.Nat.{ℕ, ◌+◌, ◌-◌, ◌≤◌, ◌<◌}
+use Prim.Native.Nat.{ℕ, suc, ◌+◌, ◌-◌, ◌≤◌}
 use mathlib.Core.Path.{◌≡◌, ◌∙◌, refl, sym, ap, subst}
 use mathlib.Core.List.{List}
 use native.Mathlib.Omega.{arith}
@@ -17,15 +17,16 @@ use Rattle.form.proofs.Walk.{records-end, records-step, shaped-rest, whole-first
 use Rattle.form.proofs.Standing.{rates-full}
 use Rattle.taking.specs.Taking.{Following}
 
-module _ (f : Format) (t : List ℕ) (left slot : ℕ) (g : Following f left slot t) (h : 0 < left) where
+-- `left` records stand in t, and k of them after the first
+module _ (f : Format) (t : List ℕ) (left slot k : ℕ) (g : Following f left slot t) (one : left ≡ suc k) where
   pub whole_here : Whole f t
-  whole_here = whole-first f t left h g.form
+  whole_here = whole-first f t left (omega arith) g.form
 
   -- the first record, as a run
   first_run : (start_of (record_at f t) ≡ slot)
       × GoodRecord (record_at f t)
-      × RunFrom (slot + length (record_at f t).rates) (records_from f (left - 1) (take (length t - size_of f t) (drop (size_of f t) t)))
-  first_run = subst (λ (rs : List Record). RunFrom slot rs) (records-step f t left h refl) g.run
+      × RunFrom (slot + length (record_at f t).rates) (records_from f k (take (length t - size_of f t) (drop (size_of f t) t)))
+  first_run = subst (λ (rs : List Record). RunFrom slot rs) (records-step f t left one refl) g.run
 
   rates-count : length (record_at f t).rates ≡ rates_of t
   unfolding record_at
@@ -40,28 +41,28 @@ module _ (f : Format) (t : List ℕ) (left slot : ℕ) (g : Following f left slo
       omega (arith, r.1.ends)
 
   -- n is the rate count, z the record's size: the records after it follow on
-  pub next-following : (n z : ℕ) → n ≡ rates_of t → z ≡ size_of f t → Following f (left - 1) (slot + n) (take (length t - z) (drop z t))
+  pub next-following : (n z : ℕ) → n ≡ rates_of t → z ≡ size_of f t → Following f k (slot + n) (take (length t - z) (drop z t))
   next-following n z n≡ z≡ =
-      let e : slot + length (record_at f t).rates ≡ slot + n = ap (λ (k : ℕ). slot + k) (rates-count ∙ sym n≡) in
-      let after : ℕ → List Record = λ (k : ℕ). records_from f (left - 1) (take (length t - k) (drop k t)) in
+      let e : slot + length (record_at f t).rates ≡ slot + n = ap (λ (x : ℕ). slot + x) (rates-count ∙ sym n≡) in
+      let after : ℕ → List Record = λ (x : ℕ). records_from f k (take (length t - x) (drop x t)) in
       record {
-        form = shaped-rest f t left h z≡ g.form;
+        form = shaped-rest f t left one z≡ g.form;
         run =
-            subst (λ (k : ℕ). RunFrom k (after z)) e
-            (subst (λ (k : ℕ). RunFrom (slot + length (record_at f t).rates) (after k)) (sym z≡) first_run.2);
+            subst (λ (x : ℕ). RunFrom x (after z)) e
+            (subst (λ (x : ℕ). RunFrom (slot + length (record_at f t).rates) (after x)) (sym z≡) first_run.2);
       }
 
   -- and the whole is what they leave after the record was put
   pub put_next : (floor n z : ℕ) (st st' : Stored) → n ≡ rates_of t → z ≡ size_of f t
       → st'.pool ≡ (put_run floor slot (part t 53 (53 + n - 53)) st).pool → st'.store ≡ (put_run floor slot (part t 53 (53 + n - 53)) st).store
-      → put_records floor (records_from f left t) st ≡ put_records floor (records_from f (left - 1) (take (length t - z) (drop z t))) st'
+      → put_records floor (records_from f left t) st ≡ put_records floor (records_from f k (take (length t - z) (drop z t))) st'
   unfolding put_records record_at
   put_next floor n z st st' n≡ z≡ p s =
-      let rates : part t 53 (53 + n - 53) ≡ part t 53 (rates_of t) = part-to t 53 n ∙ ap (λ (k : ℕ). part t 53 k) n≡ in
+      let rates : part t 53 (53 + n - 53) ≡ part t 53 (rates_of t) = part-to t 53 n ∙ ap (λ (x : ℕ). part t 53 x) n≡ in
       let same : st' ≡ put_run floor slot (part t 53 (53 + n - 53)) st = λ i. record { pool = p i; store = s i } in
-      ap (λ (rs : List Record). put_records floor rs st) (records-step f t left h z≡)
-      ∙ ap (λ (x : Stored). put_records floor (records_from f (left - 1) (take (length t - z) (drop z t))) x)
-      (ap (λ (k : ℕ). put_run floor k (part t 53 (rates_of t)) st) first_run.0
+      ap (λ (rs : List Record). put_records floor rs st) (records-step f t left one z≡)
+      ∙ ap (λ (x : Stored). put_records floor (records_from f k (take (length t - z) (drop z t))) x)
+      (ap (λ (x : ℕ). put_run floor x (part t 53 (rates_of t)) st) first_run.0
       ∙ sym (same ∙ ap (λ (rs : List ℕ). put_run floor slot rs st) rates))
 
 pub put-end : (f : Format) (t : List ℕ) (left floor : ℕ) (st : Stored) → left ≤ 0 → put_records floor (records_from f left t) st ≡ st

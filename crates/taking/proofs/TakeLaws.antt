@@ -1,9 +1,9 @@
 -- What is answered and left at each return of the code that takes a file or a response.
+use Rattle.std.specs.Prelude.{Ok, Err, None, Some}
 use Prim.Native.Nat.{ℕ, ◌-◌, ◌≤◌, ◌<◌}
 use mathlib.Core.Path.{◌≡◌, ◌∙◌, refl, ap}
 use mathlib.Core.Bool.{Bool, true, false}
 use mathlib.Core.List.{List}
-use mathlib.Core.Option.{none, some}
 use lib.Dec.{ltb}
 use lib.ListN.{length, take, drop}
 use borrow.Author.Tests.{eq-eqb, lt-ltb, le-ltb}
@@ -17,7 +17,6 @@ use Rattle.form.specs.Walk.{records_from}
 use Rattle.rules.specs.Reading.{reading_of}
 use Rattle.rules.specs.Table.{first_of}
 use Rattle.rules.specs.declared.Summary.{Summary}
-use Rattle.rules.specs.declared.Reading.TheVariants.{Read, Refused}
 use Rattle.about_files.proofs.Accepted.{FileRead, file-read, read-refused}
 use Rattle.pool.specs.Blocks.{free_count}
 use Rattle.pool.specs.declared.Pool.{Pool}
@@ -32,7 +31,7 @@ use Rattle.taking.specs.Ready.{Checked}
 use Rattle.taking.specs.Taken.{full_row, with_file, outcome_taken, store_taken}
 use Rattle.taking.specs.Taking.{Following, take_summary, filed}
 use Rattle.unit.specs.declared.Unit.{Unit}
-use Rattle.unit.specs.declared.Done.{Done}
+use Rattle.unit.specs.Changed.{Done}
 use Rattle.taking.proofs.ReadLaws.{body-room, start_is, rates-are, records-are, following, requests-are}
 
 -- the answer to what is taken, and the store after it
@@ -46,17 +45,17 @@ module _ (u : Unit) (store : List ℕ) (t : ℕ) (ok : Checked u store t) where
   refused c = rw (eq-eqb (length store) store_length ok.long, ok.good, ap is_unset ok.set) (refl, refl)
 
   module _ (boundary s : List ℕ) where
-    pub response-broken : parse_response boundary s ≡ none → Takes u store (take_response u.plant.id boundary s) (refusal u Cause.Response) store
+    pub response-broken : parse_response boundary s ≡ None → Takes u store (take_response u.plant.id boundary s) (refusal u Cause.Response) store
     unfolding take_response
     response-broken e = rw e (refused Cause.Response)
 
-    pub response-carried : (name body : List ℕ) → parse_response boundary s ≡ some (name, body) → (d : Done) (after : List ℕ)
+    pub response-carried : (name body : List ℕ) → parse_response boundary s ≡ Some (name, body) → (d : Done) (after : List ℕ)
         → Takes u store (take_file u.plant.id name body) d after → Takes u store (take_response u.plant.id boundary s) d after
     unfolding take_response
     response-carried name body e d after h = rw e h
 
   module _ (name body : List ℕ) where
-    pub take-refused : (c : Cause) → reading_of (take_file u.plant.id name body) ≡ Refused c
+    pub take-refused : (c : Cause) → reading_of (take_file u.plant.id name body) ≡ Err c
         → Takes u store (take_file u.plant.id name body) (refusal u c) store
     take-refused c got = rw (read-refused (take_file u.plant.id name body) c got) (refused c)
 
@@ -85,7 +84,7 @@ module _ (u : Unit) (store : List ℕ) (t : ℕ) (ok : Checked u store t) where
       )
 
     -- what the file says is its summary
-    module _ (x : Summary) (got : reading_of (take_file u.plant.id name body) ≡ Read x) where
+    module _ (x : Summary) (got : reading_of (take_file u.plant.id name body) ≡ Ok x) where
       read : FileRead (take_file u.plant.id name body) x
       read = file-read (take_file u.plant.id name body) x got
 
@@ -112,7 +111,7 @@ module _ (u : Unit) (store : List ℕ) (t : ℕ) (ok : Checked u store t) where
             (m ∙ requests-are _ _ _ r.the-file r.is x r.summary t (requests_of u.requests))
 
 -- a body that is read has its count, and its records follow each other
-module _ (plant name body : List ℕ) (x : Summary) (got : reading_of (take_file plant name body) ≡ Read x) where
+module _ (plant name body : List ℕ) (x : Summary) (got : reading_of (take_file plant name body) ≡ Ok x) where
   pub read-room : 6 ≤ length body
   read-room = let r = file-read (take_file plant name body) x got in body-room plant name body r.the-file r.is
 

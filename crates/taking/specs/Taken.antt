@@ -1,6 +1,5 @@
 -- A file or a response taken: what is answered and left. A refusal leaves unit and store as they were.
-use Rattle.std.specs.Prelude.{ℕ, true, List, [], ◌∷◌, ◌++◌, ltb}
-use Rattle.std.proofs.Math.Option.{Option, none, some}
+use Rattle.std.specs.Prelude.{ℕ, true, List, [], ◌∷◌, ◌++◌, ltb, Option, None, Some}
 use Rattle.rules.specs.File.{File, Outcome, refuse, file, take_file, records_in}
 use Rattle.rules.specs.Response.{take_response}
 use Rattle.rules.specs.Machine.{take_by}
@@ -13,7 +12,7 @@ use Rattle.polling.specs.Requests.{requests_of, requests_from}
 use Rattle.unit.specs.Rows.{length_row, sound_row, clock_row}
 use Rattle.unit.specs.Calls.{done_by, clock_time}
 use Rattle.unit.specs.declared.Unit.{Unit}
-use Rattle.unit.specs.declared.Done.{Done}
+use Rattle.unit.specs.Changed.{Done}
 
 -- ---- what is taken, whether it came as a file or in a response
 
@@ -58,8 +57,8 @@ store_with (refuse c) store u = store
 store_with (file f) store u = (put_records u.floor (records_in f.body) (record { pool = u.pool; store = store })).store
 
 abbrev pub store_by : Option Cause → List ℕ → List ℕ → List ℕ
-store_by none new old = new
-store_by (some c) new old = old
+store_by None new old = new
+store_by (Some c) new old = old
 
 unfoldable pub store_taken : Unit → List ℕ → Outcome → List ℕ
 store_taken u store o = store_by (first_of (outcome_rows u store o)) (store_with o store u) store

@@ -1,8 +1,7 @@
 -- What the code that takes a file goes by: the records that stand in a body's bytes, and the summary of a file that reads well.
-use Rattle.std.specs.Prelude.{ℕ, ◌%◌, ◌≡◌, true, List}
+use Rattle.std.specs.Prelude.{ℕ, ◌%◌, ◌≡◌, true, List, Ok}
 use Rattle.rules.specs.Store.{Requests as RequestValues}
 use Rattle.rules.specs.Machine.{take_year, take_update}
-use Rattle.rules.specs.declared.Answer.{Answer}
 use Rattle.rules.specs.declared.Format.{Format}
 use Rattle.rules.specs.declared.Format.TheVariants.{F201, F202, F203, F301}
 use Rattle.form.specs.Walk.{shaped, records_from}
@@ -11,7 +10,7 @@ use Rattle.about_store.specs.Run.{RunFrom}
 use Rattle.pool.specs.declared.Pool.{Pool}
 use Rattle.polling.specs.declared.Requests.{Requests}
 use Rattle.unit.specs.declared.Unit.{Unit}
-use Rattle.unit.specs.declared.Done.{Done}
+use Rattle.unit.specs.Changed.{Done}
 
 -- t is k records, which follow each other from slot `slot` on
 pub record Following (f : Format) (k slot : ℕ) (t : List ℕ) : Type 0 where
@@ -29,5 +28,5 @@ take_summary clock F301 x q = q
 abbrev pub filed : Unit → Pool → Requests → Done
 filed u pool requests = record {
   unit = record { plant = u.plant; pool = pool; requests = requests; clock = u.clock; floor = u.floor; command = u.command };
-  answer = Answer.Accepted;
+  answer = Ok tt;
 }

@@ -23,17 +23,15 @@ pub(crate) fn put_records(
     ensures { stored_of result store.new ≡ put_records floor (records_from format count s.now) (stored_of held store.old) }
 {
     let mut pool = held;
-    let mut left = count;
     let mut slot = start;
     let mut t = s;
-    while 0 < left {
+    for _ in 0..count {
         let n = layout::rate_count(t);
         let end = RATES + n as usize;
         pool = schedule::put_run(pool, floor, slot, &t[RATES..end], store);
         slot += n;
         let next = end + layout::tail_digits(format);
         t = &t[next..];
-        left -= 1;
     }
     pool
 }

@@ -2,30 +2,23 @@
 ghost use Rattle.std.specs.Prelude.{◌≡◌};
 ghost use Rattle.taking.specs.Taken.{response_of, store_after_response};
 
-use crate::ready::Ready;
-use response::Places;
 use rules::Cause;
 use unit::{Done, Unit};
 
 // A response, by its boundary and its bytes. Unit and store are looked at once, and the response only after them.
-pub fn take_response(unit: Unit, boundary: &[u8], bytes: &[u8], store: &mut [u8]) -> Done
+pub fn take_response(unit: Unit, boundary: &[u8], bytes: &[u8], store: &mut [u8]) -> Done<()>
     ensures answer { result ≡ response_of unit store.old boundary.now bytes.now }
     ensures kept { store.new ≡ store_after_response unit store.old boundary.now bytes.now }
 {
     match crate::ready::check(unit, store) {
-        Ready::Refused(cause) => unit.refuse(cause),
-        Ready::At(t) => match response::find(boundary, bytes) {
-            Places::Broken => unit.refuse(Cause::Response),
-            Places::Found {
-                name_at,
-                name_end,
-                file_at,
-                file_end,
-            } => crate::take::take_checked(
+        Err(cause) => unit.refuse(cause),
+        Ok(t) => match response::find(boundary, bytes) {
+            None => unit.refuse(Cause::Response),
+            Some(places) => crate::take::take_checked(
                 unit,
                 t,
-                &bytes[name_at..name_end],
-                &bytes[file_at..file_end],
+                &bytes[places.name_at..places.name_end],
+                &bytes[places.file_at..places.file_end],
                 store,
             ),
         },

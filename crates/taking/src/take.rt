@@ -5,10 +5,9 @@ ghost use Rattle.taking.specs.Ready.{Checked};
 ghost use Rattle.taking.specs.Taken.{take_of, store_after_take};
 ghost use Rattle.taking.specs.Taking.{take_summary, filed};
 
-use crate::ready::Ready;
 use polling::Requests;
 use pool::Pool;
-use rules::{Answer, Cause, Format, Reading, Summary};
+use rules::{Cause, Format, Summary};
 use unit::{Done, Unit};
 
 // What is due after the file, by its format and the clock.
@@ -25,26 +24,27 @@ fn take_requests(clock: u32, old: Requests, summary: Summary) -> Requests
 }
 
 // The unit with the pool and the requests that a file left.
-fn filed(unit: Unit, pool: Pool, requests: Requests) -> Done
+fn filed(unit: Unit, pool: Pool, requests: Requests) -> Done<()>
     ensures { result ≡ filed unit pool requests }
 {
-    let plant = unit.plant;
-    let clock = unit.clock;
     Done {
         unit: Unit {
-            plant,
             pool,
             requests,
-            clock,
-            floor: unit.floor,
-            command: unit.command,
+            ..unit
         },
-        answer: Answer::Accepted,
+        answer: Ok(()),
     }
 }
 
 // A file, by its name and body, where unit, store and clock were looked at. All is decided before the first byte of the store is written.
-pub(crate) fn take_checked(unit: Unit, t: u32, name: &[u8], body: &[u8], store: &mut [u8]) -> Done
+pub(crate) fn take_checked(
+    unit: Unit,
+    t: u32,
+    name: &[u8],
+    body: &[u8],
+    store: &mut [u8],
+) -> Done<()>
     requires { Checked unit store.old t }
     ensures answer { result ≡ take_of unit store.old name.now body.now }
     ensures kept { store.new ≡ store_after_take unit store.old name.now body.now }
@@ -54,8 +54,8 @@ pub(crate) fn take_checked(unit: Unit, t: u32, name: &[u8], body: &[u8], store: 
     let old = unit.requests;
     let id = plant.id;
     match transfer::read_to_take(&id, name, body) {
-        Reading::Refused(cause) => unit.refuse(cause),
-        Reading::Read(summary) => {
+        Err(cause) => unit.refuse(cause),
+        Ok(summary) => {
             let needed = schedule::missing(held, unit.floor, summary.start, summary.rates);
             if held.free_count() < needed {
                 return unit.refuse(Cause::Full);
@@ -76,12 +76,12 @@ pub(crate) fn take_checked(unit: Unit, t: u32, name: &[u8], body: &[u8], store: 
 }
 
 // A file, by its name and body.
-pub fn take_file(unit: Unit, name: &[u8], body: &[u8], store: &mut [u8]) -> Done
+pub fn take_file(unit: Unit, name: &[u8], body: &[u8], store: &mut [u8]) -> Done<()>
     ensures answer { result ≡ take_of unit store.old name.now body.now }
     ensures kept { store.new ≡ store_after_take unit store.old name.now body.now }
 {
     match crate::ready::check(unit, store) {
-        Ready::Refused(cause) => unit.refuse(cause),
-        Ready::At(t) => take_checked(unit, t, name, body, store),
+        Err(cause) => unit.refuse(cause),
+        Ok(t) => take_checked(unit, t, name, body, store),
     }
 }

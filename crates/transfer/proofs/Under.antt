@@ -1,9 +1,9 @@
 -- Reading by its parts: what the name says, whether the ID fits, and the body under the name's fields.
+use Rattle.std.specs.Prelude.{Result, Err, Option, None, Some}
 use Prim.Native.Nat.{ℕ}
 use mathlib.Core.Path.{◌≡◌, refl, sym, ap, ◌∙◌}
-use mathlib.Core.Bool.{Bool, true, false, not}
+use mathlib.Core.Bool.{Bool, true, false}
 use mathlib.Core.List.{List, []}
-use mathlib.Core.Option.{Option, none, some}
 use lib.Dec.{eqb}
 use lib.ListN.{length}
 use borrow.Author.Tests.{eqb-true}
@@ -14,8 +14,7 @@ use Rattle.rules.specs.File.{with_body, read_file, take_file, id_fits}
 use Rattle.rules.specs.declared.Cause.{Cause}
 use Rattle.rules.specs.declared.Format.{Format}
 use Rattle.rules.specs.Reading.{reading_of}
-use Rattle.rules.specs.declared.Reading.{Reading}
-use Rattle.rules.specs.declared.Reading.TheVariants.{Refused}
+use Rattle.rules.specs.declared.Summary.{Summary}
 use Rattle.laws.proofs.Tests.{both}
 use Rattle.body.specs.Reading.{name_of}
 use Rattle.body.proofs.Outcomes.{created-free}
@@ -26,11 +25,11 @@ use Rattle.about_files.proofs.Numerals.{decimal-value}
 use Rattle.transfer.specs.Under.{under_name, for_plant}
 
 -- 7: the name breaks its form
-pub no_name : (plant : Option (List ℕ)) (name body : List ℕ) → parse_name name ≡ none → reading_of (read_file plant name body) ≡ Refused Cause.Name
+pub no_name : (plant : Option (List ℕ)) (name body : List ℕ) → parse_name name ≡ None → reading_of (read_file plant name body) ≡ Err Cause.Name
 unfolding read_file reading_of
 no_name plant name body e = rw e
 
-pub no-name-taken : (plant name body : List ℕ) → parse_name name ≡ none → reading_of (take_file plant name body) ≡ Refused Cause.Name
+pub no-name-taken : (plant name body : List ℕ) → parse_name name ≡ None → reading_of (take_file plant name body) ≡ Err Cause.Name
 unfolding take_file read_file reading_of
 no-name-taken plant name body e = rw e
 
@@ -42,11 +41,11 @@ under n f segment plant b e h k l =
     rw (e, h, k, decimal-value n.segment 4 (eqb-true _ _ d.0) d.1) (created-free n.format n.segment n.plant [] n.created b)
 
 -- the two ways to go on from the ID
-pub other_id : (fits : Bool) (f : Fields) (id body : List ℕ) → fits ≡ false → Refused Cause.OtherPlant ≡ reading_of (under_name fits f id body)
+pub other_id : (fits : Bool) (f : Fields) (id body : List ℕ) → fits ≡ false → Err Cause.OtherPlant ≡ reading_of (under_name fits f id body)
 unfolding reading_of
 other_id fits f id body e = rw e refl
 
-pub same_id : (fits : Bool) (f : Fields) (id body : List ℕ) (r : Reading) → fits ≡ true
+pub same_id : (fits : Bool) (f : Fields) (id body : List ℕ) (r : Result Summary Cause) → fits ≡ true
     → r ≡ reading_of (with_body (name_of f.format f.segment id) (parse_body f.format body)) → r ≡ reading_of (under_name fits f id body)
 same_id fits f id body r e k = rw e k
 
@@ -67,7 +66,7 @@ module _ (name body : List ℕ) (f : Fields) (read : Read (parse_name name) f) w
   named plant e = rw (read.found, e)
 
   -- 8: the ID does not fit
-  other-plant : (plant : Option (List ℕ)) → id_fits plant (plant_digits name) ≡ false → Refused Cause.OtherPlant ≡ reading_of (read_file plant name body)
+  other-plant : (plant : Option (List ℕ)) → id_fits plant (plant_digits name) ≡ false → Err Cause.OtherPlant ≡ reading_of (read_file plant name body)
   unfolding read_file reading_of
   other-plant plant e = rw (read.found, ← plant-is name n read.found, e)
 
@@ -81,14 +80,14 @@ module _ (name body : List ℕ) (f : Fields) (read : Read (parse_name name) f) w
       ∙ sym (named plant (ap (id_fits plant) (sym (plant-is name n read.found)) ∙ sym e))
   under-read plant false e = other-plant plant (sym e)
 
-  pub plant-read : (plant : List ℕ) → reading_of (for_plant f plant name body) ≡ reading_of (read_file (some plant) name body)
-  plant-read plant = under-read (some plant) (same_bytes (plant_digits name) plant) refl
+  pub plant-read : (plant : List ℕ) → reading_of (for_plant f plant name body) ≡ reading_of (read_file (Some plant) name body)
+  plant-read plant = under-read (Some plant) (same_bytes (plant_digits name) plant) refl
 
   -- 301 is not taken; any other file is read for the plant
-  pub not_taken : (plant : List ℕ) → not (is_schedule f.format) ≡ true → reading_of (take_file plant name body) ≡ Refused Cause.Name
+  pub not_taken : (plant : List ℕ) → is_schedule f.format ≡ false → reading_of (take_file plant name body) ≡ Err Cause.Name
   unfolding take_file reading_of
   not_taken plant e = rw (read.found, ← read.format, e)
 
-  pub taken : (plant : List ℕ) → not (is_schedule f.format) ≡ false → reading_of (take_file plant name body) ≡ reading_of (read_file (some plant) name body)
+  pub taken : (plant : List ℕ) → is_schedule f.format ≡ true → reading_of (take_file plant name body) ≡ reading_of (read_file (Some plant) name body)
   unfolding take_file
   taken plant e = rw (read.found, ← read.format, e)

@@ -1,40 +1,36 @@
 // Reading a name and body (01, Names and bodies): without a plant, for a plant, and to be taken by its unit.
 #![tactic(auto)]
 
-ghost use Rattle.std.specs.Prelude.{◌≡◌, not};
-ghost use Rattle.std.proofs.Math.Option.{none, some};
-ghost use Rattle.rules.specs.Body.{is_schedule};
+ghost use Rattle.std.specs.Prelude.{◌≡◌, None, Some};
 ghost use Rattle.rules.specs.File.{read_file, take_file};
 ghost use Rattle.rules.specs.Reading.{reading_of};
 ghost use Rattle.transfer.specs.Under.{under_name, for_plant};
 
-use name::{Fields, NameRead};
-use rules::{Cause, Format, Reading};
+use name::Fields;
+use rules::{Cause, Summary};
 
 // Cause 8 where the name's ID does not fit, else what the body says under the name's fields.
-fn read_under(fields: Fields, fits: bool, id: &[u8], body: &[u8]) -> Reading
+fn read_under(fields: Fields, fits: bool, id: &[u8], body: &[u8]) -> Result<Summary, Cause>
     ensures { result ≡ reading_of (under_name fits fields id.now body.now) }
 {
     if !fits {
-        return Reading::Refused(Cause::OtherPlant);
+        return Err(Cause::OtherPlant);
     }
     let format = fields.format;
     body::read_body(format, fields.segment, id, body)
 }
 
 // What a name and body say, read without a plant: the name's ID has its check digit.
-pub fn read(name: &[u8], body: &[u8]) -> Reading
-    ensures { result ≡ reading_of (read_file none name.now body.now) }
+pub fn read(name: &[u8], body: &[u8]) -> Result<Summary, Cause>
+    ensures { result ≡ reading_of (read_file None name.now body.now) }
 {
-    let NameRead::Named(fields) = name::read_name(name) else {
-        return Reading::Refused(Cause::Name);
-    };
+    let fields = name::read_name(name).ok_or(Cause::Name)?;
     let id = name::plant_digits(name);
     read_under(fields, plant::is_plant_id(&id), &id, body)
 }
 
 // The same under a name that was read for a plant: the name's ID is the plant's.
-fn read_named(fields: Fields, plant: &[u8], name: &[u8], body: &[u8]) -> Reading
+fn read_named(fields: Fields, plant: &[u8], name: &[u8], body: &[u8]) -> Result<Summary, Cause>
     ensures { result ≡ reading_of (for_plant fields plant.now name.now body.now) }
 {
     let id = name::plant_digits(name);
@@ -42,37 +38,21 @@ fn read_named(fields: Fields, plant: &[u8], name: &[u8], body: &[u8]) -> Reading
 }
 
 // What a name and body say, read for a plant.
-pub fn read_for(plant: &[u8], name: &[u8], body: &[u8]) -> Reading
-    ensures { result ≡ reading_of (read_file (some plant.now) name.now body.now) }
+pub fn read_for(plant: &[u8], name: &[u8], body: &[u8]) -> Result<Summary, Cause>
+    ensures { result ≡ reading_of (read_file (Some plant.now) name.now body.now) }
 {
-    let NameRead::Named(fields) = name::read_name(name) else {
-        return Reading::Refused(Cause::Name);
-    };
+    let fields = name::read_name(name).ok_or(Cause::Name)?;
     read_named(fields, plant, name, body)
 }
 
-// Whether the format is that of the ID registration.
-fn is_registration(format: Format) -> bool
-    ensures { result ≡ not (is_schedule format) }
-{
-    match format {
-        Format::F201 => false,
-        Format::F202 => false,
-        Format::F203 => false,
-        Format::F301 => true,
-    }
-}
-
 // What a name and body say to the unit of a plant that takes them: 301 is not taken.
-pub fn read_to_take(plant: &[u8], name: &[u8], body: &[u8]) -> Reading
+pub fn read_to_take(plant: &[u8], name: &[u8], body: &[u8]) -> Result<Summary, Cause>
     ensures { result ≡ reading_of (take_file plant.now name.now body.now) }
 {
-    let NameRead::Named(taken) = name::read_name(name) else {
-        return Reading::Refused(Cause::Name);
-    };
-    let format = taken.format;
-    if is_registration(format) {
-        return Reading::Refused(Cause::Name);
+    let taken = name::read_name(name).ok_or(Cause::Name)?;
+    let scheduled = layout::is_schedule(taken.format);
+    if !scheduled {
+        return Err(Cause::Name);
     }
     read_named(taken, plant, name, body)
 }

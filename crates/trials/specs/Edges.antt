@@ -1,6 +1,5 @@
 -- What the definitions say at the edges of 01's rules: one table for each part, each proved by one computation.
-use Rattle.std.specs.Prelude.{ℕ, zero, suc, ◌+◌, ◌-◌, ◌*◌, ◌≡◌, refl, true, List, [], ◌∷◌, ◌++◌, length, take, replicate, set}
-use Rattle.std.proofs.Math.Option.{none, some}
+use Rattle.std.specs.Prelude.{ℕ, zero, suc, ◌+◌, ◌-◌, ◌*◌, ◌≡◌, refl, true, List, [], ◌∷◌, ◌++◌, length, take, replicate, set, None, Some}
 use Rattle.rules.specs.Digits.{all_at_most, all_ascii, value_from, decimal, same_bytes, to_ascii}
 use Rattle.rules.specs.Calendar.{leap_year, days_of_month, first_day, first_slot, month_from, month_of_day, month_of_slot, exists, seconds_of, moment, start_slot, slot_count}
 use Rattle.rules.specs.Plant.{weighted_sum, check_digit, plant_id, all_hex, mac_address, valid_settings, percent, installing}
@@ -156,7 +155,7 @@ example10 : List ℕ
 example10 = update_body 202603270930 (100 ∷ 40 ∷ 28 ∷ []) 20260327113000
 
 reads : List ℕ → List ℕ → ℕ
-reads n b = outcome_number (read_file none n b)
+reads n b = outcome_number (read_file None n b)
 
 registered : ℕ → List ℕ
 registered result = encode_body (registration plant_x result)
@@ -183,7 +182,7 @@ readings =
     ∷ reads (set (name F203 0) 2 52) example10 is 7
     ∷ reads (set (name F203 0) 40 57) example10 is 7
     ∷ reads (set (name F203 0) 34 48) example10 is 8
-    ∷ outcome_number (read_file (some (set plant_x 0 2)) (name F203 0) example10) is 8
+    ∷ outcome_number (read_file (Some (set plant_x 0 2)) (name F203 0) example10) is 8
     -- the form
     ∷ reads (name F203 0) [] is 9
     ∷ reads (name F203 0) (take 78 example10) is 9

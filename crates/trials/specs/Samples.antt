@@ -1,6 +1,6 @@
 -- Sample plants, names, bodies and calls for the trials.
-use Rattle.std.specs.Prelude.{ℕ, suc, ◌+◌, ◌*◌, Bool, true, false, ◌&&◌, List, [], ◌∷◌, ◌++◌, length, replicate, eqb}
-use Rattle.std.proofs.Math.Option.{Option, none, some}
+use Rattle.rules.specs.Causes.{Answer}
+use Rattle.std.specs.Prelude.{ℕ, suc, ◌+◌, ◌*◌, Bool, true, false, ◌&&◌, List, [], ◌∷◌, ◌++◌, length, replicate, eqb, Ok, Err, Option, None, Some}
 use Rattle.rules.specs.Digits.{decimal}
 use Rattle.rules.specs.Plant.{Settings}
 use Rattle.rules.specs.Name.{encode_name}
@@ -9,7 +9,6 @@ use Rattle.rules.specs.File.{Outcome, refuse, file, checksum_of}
 use Rattle.rules.specs.Causes.{Reply, accepted, refused, ceiling, update, fixed, nothing, parts, blocks, number_of}
 use Rattle.rules.specs.Machine.{Told}
 use Rattle.rules.specs.Writer.{Fields, Output, bytes}
-use Rattle.rules.specs.declared.Answer.{Answer}
 use Rattle.rules.specs.declared.Format.{Format}
 
 -- plant X of the bench examples
@@ -63,8 +62,8 @@ fields format start rates flag = record {
 
 -- a refusal's number, and 0 where there is none
 abbrev pub answer_number : Answer → ℕ
-answer_number Answer.Accepted = 0
-answer_number (Answer.Refused c) = number_of c
+answer_number (Ok tt) = 0
+answer_number (Err c) = number_of c
 
 abbrev pub outcome_number : Outcome → ℕ
 outcome_number (refuse c) = number_of c
@@ -81,8 +80,8 @@ output_bytes (bytes b) = b
 
 -- none is 0, and n is n + 1
 abbrev pub option_number : Option ℕ → ℕ
-option_number none = 0
-option_number (some n) = suc n
+option_number None = 0
+option_number (Some n) = suc n
 
 -- a reply as one number: 0 accepted; 100 and the cause; 1,000,000 and r, p of a rate; the others as they come
 abbrev pub reply_number : Reply → ℕ

@@ -1,6 +1,5 @@
 -- A 201 with faults in two of its thirteen records: each stage covers all records before the next, so that the lower cause is given wherever it stands.
-use Rattle.std.specs.Prelude.{ℕ, zero, suc, ◌+◌, ◌*◌, ◌≡◌, refl, true, List, [], ◌∷◌, replicate, set}
-use Rattle.std.proofs.Math.Option.{none}
+use Rattle.std.specs.Prelude.{ℕ, zero, suc, ◌+◌, ◌*◌, ◌≡◌, refl, true, List, [], ◌∷◌, replicate, set, None}
 use Rattle.rules.specs.Digits.{all_at_most, all_ascii, value_from, decimal, same_bytes}
 use Rattle.rules.specs.Calendar.{days_of_month, first_day, exists, seconds_of, start_slot}
 use Rattle.rules.specs.Plant.{weighted_sum, check_digit, plant_id}
@@ -72,7 +71,7 @@ goods (suc k) fs = good ∷ goods k fs
 
 -- the number that reading such a file gives
 reads : List Fault → ℕ
-reads fs = outcome_number (read_file none (name F201 9990) (encode_body (schedule (records_with fs year))))
+reads fs = outcome_number (read_file None (name F201 9990) (encode_body (schedule (records_with fs year))))
 
 pub years : List Line
 years =

@@ -34,11 +34,9 @@ fn rearrange(from: &[u8], to: &mut [u8], row: usize)
     ensures { to.new ≡ rearranged (length from.now / row) row from.now }
 {
     let mut place = 0;
-    let mut i = 0;
-    while i < from.len() {
-        to[i] = from[place];
+    for x in to.iter_mut() {
+        *x = from[place];
         place = step(place, row, from.len());
-        i += 1;
     }
 }
 

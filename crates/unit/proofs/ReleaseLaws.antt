@@ -1,4 +1,5 @@
 -- Giving blocks back: twice is once, what is left is found as before and is sound, and a sound store gives no rate above 100.
+use Rattle.std.specs.Prelude.{Option, Some, None}
 use Prim.Native.Nat.{ℕ, zero, suc, ◌-◌, ◌*◌, ◌/◌, ◌^◌, ◌≤◌, ◌<◌, zero-le}
 use native.Mathlib.Nat.{le_of_suc-le-suc, eq-or-lt_of_le, max-le}
 use native.Mathlib.Omega.{arith}
@@ -6,7 +7,6 @@ use mathlib.Core.Path.{◌≡◌, ◌∙◌, refl, sym, ap, ap₂}
 use mathlib.Core.Logic.{◌⊎◌, inl, inr}
 use mathlib.Core.Bool.{Bool, true, false, cond, ◌&&◌, ◌||◌, false≢true}
 use mathlib.Core.List.{List, [], ◌∷◌}
-use mathlib.Core.Option.{none, some}
 use lib.Dec.{leb, ltb, eqb}
 use lib.ListN.{get_or, take, drop}
 use lib.Seq.{get_or-take, get_or-drop}
@@ -20,8 +20,6 @@ use Rattle.calendar.proofs.Laws.{days-range, first-slot-step, slot-month-from, s
 use Rattle.pool.specs.Blocks.{is_free, month_of, find_of, free_after, release_of}
 use Rattle.pool.specs.Held.{InBlock, Held, Sound, held_below, held_of}
 use Rattle.pool.specs.declared.Pool.{Pool}
-use Rattle.pool.specs.declared.Found.{Found}
-use Rattle.pool.specs.declared.Found.TheVariants.{At, Nothing}
 use Rattle.pool.proofs.BelowLaws.{bit-number, sum_same}
 use Rattle.pool.proofs.Laws.{released-held, released-sound, find_in, find_at, find_none}
 use Rattle.schedule.specs.Stored.{place, rate_found, stored_rate}
@@ -66,15 +64,15 @@ released_out p floor m b i h = record {
 pub find_released : (p : Pool) (old floor m : ℕ) → Sound p old → (Held p m → floor ≤ m) → find_of (release_of p floor) m ≡ find_of p m
 find_released p old floor m s above = go (find_of p m) refl
   where
-    go : (r : Found) → find_of p m ≡ r → find_of (release_of p floor) m ≡ r
-    go (At b) e =
+    go : (r : Option ℕ) → find_of p m ≡ r → find_of (release_of p floor) m ≡ r
+    go (Some b) e =
         let i = find_at p m b e in
         find_in (release_of p floor) floor m b (released-sound p floor old s) (released_out p floor m b i (above (b, i)))
-    go Nothing e =
+    go None e =
         find_none (release_of p floor) m
         (λ h.
         let w = ((released-held p floor m).0 h).0 in
-        let at : At w.0 ≡ Nothing = sym (find_in p old m w.0 s w.1) ∙ e in
+        let at : Some w.0 ≡ None = sym (find_in p old m w.0 s w.1) ∙ e in
         let z : ◌≡◌ {A = ℕ} 0 1 = cc in
         omega arith)
 
@@ -96,7 +94,7 @@ unfolding stored_rate
 rate-released p store floor s t sound l =
     let m = month_of_slot (slot_of t) in
     let later : month_of_second s ≤ m = rw (month-slot t) at (month-monotone s t l) in
-    ap (λ (r : Found). rate_found r store (slot_of t - first_slot m))
+    ap (λ (r : Option ℕ). rate_found r store (slot_of t - first_slot m))
     (find_released p floor (raised_floor floor s) m sound (λ h. let low = sound.low m h.0 h.1 in max-le low (omega arith)))
 
 -- ---- the store
@@ -156,7 +154,7 @@ byte-legal x e = go (eqb x no_rate) e
     left true f = refl
     left false f = f
 
-    go : (t : Bool) → (leb x highest_rate || t) ≡ true → or_zero (cond t none (some x)) ≤ highest_rate
+    go : (t : Bool) → (leb x highest_rate || t) ≡ true → or_zero (cond t None (Some x)) ≤ highest_rate
     go true f = zero-le
     go false f = leb-true x highest_rate (left (leb x highest_rate) f)
 
@@ -178,9 +176,9 @@ pub rate-legal : (p : Pool) (store : List ℕ) (s : ℕ) → s < slot_count → 
 unfolding stored_rate
 rate-legal p store s l e = go (find_of p (month_of_slot s)) refl
   where
-    go : (r : Found) → find_of p (month_of_slot s) ≡ r → or_zero (rate_found r store (s - first_slot (month_of_slot s))) ≤ highest_rate
-    go Nothing f = zero-le
-    go (At b) f =
+    go : (r : Option ℕ) → find_of p (month_of_slot s) ≡ r → or_zero (rate_found r store (s - first_slot (month_of_slot s))) ≤ highest_rate
+    go None f = zero-le
+    go (Some b) f =
         let m = month_of_slot s in
         let i = find_at p m b f in
         let sound : sound_block m (block_of store b) ≡ true = rw i.month at (held-block p store block_count b i.below i.used e) in

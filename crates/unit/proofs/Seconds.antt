@@ -1,4 +1,5 @@
 -- The seconds of a tick: all of them at once are what they are one by one, and each leaves a sound unit and a sound store sound.
+use Rattle.std.specs.Prelude.{Some}
 use Prim.Native.Nat.{ℕ, zero, suc, ◌+◌, ◌-◌, ◌*◌, ◌≤◌, ◌<◌}
 use native.Mathlib.Omega.{arith}
 use mathlib.Core.Path.{◌≡◌, ◌∙◌, sym, ap, ap₂}
@@ -21,7 +22,6 @@ use Rattle.ramp.proofs.Laws.{command_over-same, approach-most}
 use Rattle.unit.specs.Values.{is_sound}
 use Rattle.unit.specs.Calls.{set_clock, with_command, second, seconds}
 use Rattle.unit.specs.declared.Unit.{Unit}
-use Rattle.unit.specs.declared.Clock.TheVariants.{At}
 use Rattle.unit.proofs.SoundParts.{SoundParts, sound-parts, parts-sound, SoundWith}
 use Rattle.unit.proofs.ReleaseLaws.{release_release, floor-again, rate-released, store-released, rate-legal}
 
@@ -51,7 +51,7 @@ module _ (store : List ℕ) where
       let low = raised_floor u.floor s in
       let floor = floor-again u.floor s t l in
       let pool = release_release u.pool low (raised_floor low t) (omega arith) ∙ ap (release_of u.pool) floor in
-      λ i. record { plant = u.plant; pool = pool i; requests = u.requests; clock = At t; floor = floor i; command = x }
+      λ i. record { plant = u.plant; pool = pool i; requests = u.requests; clock = Some t; floor = floor i; command = x }
 
   -- and the seconds after it move the command by the rates before it
   command-again : (n c : ℕ) (u : Unit) → Sound u.pool u.floor

@@ -10,7 +10,7 @@ use Rattle.laws.proofs.Tests.{both}
 use Rattle.plant.specs.Plant.{settings_of, valid_plant}
 use Rattle.pool.specs.Held.{held_of, sound_pool}
 use Rattle.polling.specs.Requests.{requests_of}
-use Rattle.unit.specs.Values.{clock_of, is_sound}
+use Rattle.unit.specs.Values.{is_sound}
 use Rattle.unit.specs.declared.Unit.{Unit}
 use Rattle.unit.proofs.CallLaws.{sound-is}
 
@@ -19,7 +19,7 @@ pub record SoundParts (u : Unit) : Type 0 where
   pub floor : ltb u.floor month_count ≡ true
   pub pool : sound_pool u.pool u.floor ≡ true
   pub requests : sound_requests (settings_of u.plant) (requests_of u.requests) ≡ true
-  pub clock : sound_clock (clock_of u.clock) ≡ true
+  pub clock : sound_clock (u.clock) ≡ true
   pub command : leb u.command (6000 * u.plant.settings.minutes) ≡ true
 
 pub sound-parts : (u : Unit) → is_sound u ≡ true → SoundParts u
@@ -28,7 +28,7 @@ sound-parts u e =
     let f = ltb u.floor month_count in
     let p = sound_pool u.pool u.floor in
     let q = sound_requests (settings_of u.plant) (requests_of u.requests) in
-    let k = sound_clock (clock_of u.clock) in
+    let k = sound_clock (u.clock) in
     let a = both (v && f && p && q && k) (leb u.command (6000 * u.plant.settings.minutes)) (sym (sound-is u) ∙ e) in
     let b = both (v && f && p && q) k a.0 in
     let d = both (v && f && p) q b.0 in

@@ -1,3 +1,4 @@
+pub mod Changed
 pub mod Values
 pub mod Rows
 pub mod Calls

@@ -1,5 +1,5 @@
 -- The rows of 01's table that the calls of the unit look at, each a test of its own.
-use Rattle.std.specs.Prelude.{ℕ, Bool, true, false, not, ◌&&◌, List, ltb, eqb, length}
+use Rattle.std.specs.Prelude.{ℕ, Bool, true, false, not, ◌&&◌, List, ltb, eqb, length, Option, Some, None}
 use Rattle.rules.specs.Calendar.{end_of_time, slot_count}
 use Rattle.rules.specs.Machine.{is_status}
 use Rattle.rules.specs.Store.{store_length, sound_store}
@@ -8,8 +8,6 @@ use Rattle.rules.specs.declared.Cause.{Cause}
 use Rattle.pool.specs.Held.{held_of}
 use Rattle.unit.specs.Values.{is_sound}
 use Rattle.unit.specs.declared.Unit.{Unit}
-use Rattle.unit.specs.declared.Clock.{Clock}
-use Rattle.unit.specs.declared.Clock.TheVariants.{Unset, At}
 
 -- 3: 'store not 23,808 bytes'
 abbrev pub length_row : List ℕ → Row
@@ -23,9 +21,9 @@ abbrev pub sound_row : Unit → List ℕ → Row
 sound_row u store = row Cause.Unsound (not (is_sound u && sound_store (held_of u.pool) store))
 
 -- 5: 'clock unset'
-abbrev pub is_unset : Clock → Bool
-is_unset Unset = true
-is_unset (At t) = false
+abbrev pub is_unset : Option ℕ → Bool
+is_unset None = true
+is_unset (Some t) = false
 
 abbrev pub clock_row : Unit → Row
 clock_row u = row Cause.ClockUnset (is_unset u.clock)

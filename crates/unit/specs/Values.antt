@@ -1,6 +1,5 @@
 -- The unit's struct in the words of 01: its values, its soundness, and the fresh unit.
-use Rattle.std.specs.Prelude.{ℕ, Bool, List, replicate}
-use Rattle.std.proofs.Math.Option.{Option, none, some}
+use Rattle.std.specs.Prelude.{ℕ, Bool, List, replicate, Some, None, Option}
 use Rattle.rules.specs.Plant.{Settings}
 use Rattle.rules.specs.Store.{Values, sound_unit, fresh_requests, block_count}
 use Rattle.pool.specs.Blocks.{is_free, all_free}
@@ -11,19 +10,13 @@ use Rattle.plant.specs.declared.Plant.{Plant}
 use Rattle.polling.specs.Requests.{requests_of, requests_from}
 use Rattle.unit.specs.declared.Unit.{Unit}
 use Rattle.unit.specs.declared.Installed.{Installed}
-use Rattle.unit.specs.declared.Clock.{Clock}
-use Rattle.unit.specs.declared.Clock.TheVariants.{Unset, At}
-
-abbrev pub clock_of : Clock → Option ℕ
-clock_of Unset = none
-clock_of (At t) = some t
 
 unfoldable pub values_of : Unit → Values
 values_of u = record {
   plant = u.plant.id;
   mac = u.plant.mac;
   settings = settings_of u.plant;
-  clock = clock_of u.clock;
+  clock = u.clock;
   floor = u.floor;
   held = held_of u.pool;
   free = is_free u.pool;
@@ -44,7 +37,7 @@ fresh_unit p = record {
   plant = p;
   pool = fresh_pool;
   requests = requests_from fresh_requests;
-  clock = Unset;
+  clock = None;
   floor = 0;
   command = 0;
 }

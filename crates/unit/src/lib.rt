@@ -4,7 +4,7 @@
 ghost use Rattle.std.specs.Prelude.{◌≡◌};
 ghost use Rattle.rules.specs.Store.{sound_clock};
 ghost use Rattle.plant.specs.Plant.{given_of};
-ghost use Rattle.unit.specs.Values.{clock_of, is_sound, fresh_unit, installed_unit};
+ghost use Rattle.unit.specs.Values.{is_sound, fresh_unit, installed_unit};
 ghost use Rattle.unit.specs.Calls.{refusal, lost_of, failure_of, due_of, command_of, free_of};
 ghost use Rattle.unit.specs.Asked.{due_asked, command_asked, free_asked};
 
@@ -15,85 +15,44 @@ mod tick;
 use plant::{GivenSettings, Plant};
 use polling::Requests;
 use pool::{ALL_FREE, Pool};
-use rules::{
-    Answer, BLOCK_COUNT, Cause, Ceiling, Command, Due, END_OF_TIME, FreeBlocks, Kind, MONTH_COUNT,
-    Written,
-};
+use rules::{BLOCK_COUNT, Cause, Due, END_OF_TIME, Kind, MONTH_COUNT};
 
-// The clock: unset, or at a second.
-#[derive(Clone, Copy)]
-pub enum Clock {
-    Unset,
-    At(u32),
-}
-
-// A unit. floor is the floor month; command is in parts, of which 6,000 × N are 100%.
+// A unit. clock is the second that it stands at, where it is set; floor is the floor month; command is in parts, of which 6,000 × N are 100%.
 #[derive(Clone, Copy)]
 pub struct Unit {
     pub plant: Plant,
     pub pool: Pool,
     pub requests: Requests,
-    pub clock: Clock,
+    pub clock: Option<u32>,
     pub floor: u16,
     pub command: u32,
 }
 
-// A unit after a call, and the call's answer.
+// What a call hands back: the unit after it, and its answer, or the cause that refused it.
 #[derive(Clone, Copy)]
-pub struct Done {
+pub struct Done<T> {
     pub unit: Unit,
-    pub answer: Answer,
+    pub answer: Result<T, Cause>,
 }
 
-// A unit after a question, and the question's answer: each question has its own.
-#[derive(Clone, Copy)]
-pub struct DueAsked {
-    pub unit: Unit,
-    pub answer: Due,
-}
-
-#[derive(Clone, Copy)]
-pub struct CeilingAsked {
-    pub unit: Unit,
-    pub answer: Ceiling,
-}
-
-#[derive(Clone, Copy)]
-pub struct CommandAsked {
-    pub unit: Unit,
-    pub answer: Command,
-}
-
-#[derive(Clone, Copy)]
-pub struct FreeAsked {
-    pub unit: Unit,
-    pub answer: FreeBlocks,
-}
-
-#[derive(Clone, Copy)]
-pub struct RequestAsked {
-    pub unit: Unit,
-    pub answer: Written,
-}
-
-// The answer to install, and the unit where it is accepted; else one that is not sound.
+// The answer to install, and the unit where it is accepted; else one that is not sound. No Result: C gets its struct back in either case, and
+// what every call answers to that of a refused install is proved.
 #[derive(Clone, Copy)]
 pub struct Installed {
-    pub answer: Answer,
+    pub answer: Result<(), Cause>,
     pub unit: Unit,
 }
 
 // 'command at most 6,000 × N'.
 const FULL_COMMAND: u64 = 6000;
 
-impl Clock {
-    fn sound(self) -> bool
-        ensures { result ≡ sound_clock (clock_of self) }
-    {
-        match self {
-            Clock::Unset => true,
-            Clock::At(t) => t < END_OF_TIME,
-        }
+// Whether a clock that is set stands before the end of 2099.
+fn sound_clock(clock: Option<u32>) -> bool
+    ensures { result ≡ sound_clock clock }
+{
+    match clock {
+        None => true,
+        Some(t) => t < END_OF_TIME,
     }
 }
 
@@ -108,7 +67,7 @@ fn fresh(plant: Plant) -> Unit
             free: ALL_FREE,
         },
         requests: Requests::fresh(),
-        clock: Clock::Unset,
+        clock: None,
         floor: 0,
         command: 0,
     }
@@ -127,11 +86,9 @@ impl Unit {
         ensures { result ≡ installed_unit id.now mac.now (given_of given) }
     {
         let made = Plant::install(id, mac, given);
-        let answer = made.answer;
-        let plant = made.plant;
         Installed {
-            answer,
-            unit: fresh(plant),
+            answer: made.answer,
+            unit: fresh(made.plant),
         }
     }
 
@@ -139,137 +96,116 @@ impl Unit {
     pub fn sound(self) -> bool
         ensures { result ≡ is_sound self }
     {
-        let plant = self.plant;
-        let pool = self.pool;
-        let requests = self.requests;
-        let clock = self.clock;
-        plant.valid()
+        let settings = self.plant.settings;
+        self.plant.valid()
             & (self.floor < MONTH_COUNT)
-            & pool.sound(self.floor)
-            & requests.sound(plant.settings)
-            & clock.sound()
-            & (self.command as u64 <= FULL_COMMAND * plant.settings.minutes as u64)
+            & self.pool.sound(self.floor)
+            & self.requests.sound(settings)
+            & sound_clock(self.clock)
+            & (self.command as u64 <= FULL_COMMAND * settings.minutes as u64)
+    }
+
+    // The unit as it was, with an answer.
+    fn answering<T>(self, answer: Result<T, Cause>) -> Done<T>
+        ensures { (result.unit ≡ self) × (result.answer ≡ answer) }
+    {
+        Done { unit: self, answer }
     }
 
     // The unit with a cause, as it was.
-    pub fn refuse(self, cause: Cause) -> Done
+    pub fn refuse(self, cause: Cause) -> Done<()>
         ensures { result ≡ refusal self cause }
     {
-        Done {
-            unit: self,
-            answer: Answer::Refused(cause),
-        }
+        self.answering(Err(cause))
     }
 
     // The clock is lost: unset, and the command 0.
-    pub fn clock_lost(self) -> Done
+    pub fn clock_lost(self) -> Done<()>
         ensures { result ≡ lost_of self }
     {
         if !self.sound() {
             return self.refuse(Cause::Unsound);
         }
-        let plant = self.plant;
-        let pool = self.pool;
-        let requests = self.requests;
         Done {
             unit: Unit {
-                plant,
-                pool,
-                requests,
-                clock: Clock::Unset,
-                floor: self.floor,
+                clock: None,
                 command: 0,
+                ..self
             },
-            answer: Answer::Accepted,
+            answer: Ok(()),
         }
     }
 
     // A request for the update or the fixed schedule failed with that status.
-    pub fn failure(self, kind: Kind, status: u64) -> Done
+    pub fn failure(self, kind: Kind, status: u64) -> Done<()>
         ensures { result ≡ failure_of self kind status }
     {
         if !self.sound() {
             return self.refuse(Cause::Unsound);
         }
-        let clock = self.clock;
-        let Clock::At(t) = clock else {
+        let Some(t) = self.clock else {
             return self.refuse(Cause::ClockUnset);
         };
         if !polling::is_status(status) {
             return self.refuse(Cause::Range);
         }
         let plant = self.plant;
-        let pool = self.pool;
-        let old = self.requests;
-        let requests = old.failed(plant.settings, kind, plant.check_digit(), t, status);
+        let requests = self
+            .requests
+            .failed(plant.settings, kind, plant.check_digit(), t, status);
         Done {
-            unit: Unit {
-                plant,
-                pool,
-                requests,
-                clock,
-                floor: self.floor,
-                command: self.command,
-            },
-            answer: Answer::Accepted,
+            unit: Unit { requests, ..self },
+            answer: Ok(()),
         }
     }
 
-    fn due_answer(self) -> Due
+    fn due_answer(self) -> Result<Option<Due>, Cause>
         ensures { result ≡ due_of self }
     {
         if !self.sound() {
-            return Due::Refused(Cause::Unsound);
+            return Err(Cause::Unsound);
         }
-        let clock = self.clock;
-        let Clock::At(t) = clock else {
-            return Due::Refused(Cause::ClockUnset);
-        };
+        let t = self.clock.ok_or(Cause::ClockUnset)?;
         let plant = self.plant;
-        let requests = self.requests;
-        requests.due(plant.settings, plant.check_digit(), t)
+        Ok(self.requests.due(plant.settings, plant.check_digit(), t))
     }
 
     // What is due.
-    pub fn due(self) -> DueAsked
+    pub fn due(self) -> Done<Option<Due>>
         ensures { result ≡ due_asked self }
     {
-        let answer = self.due_answer();
-        DueAsked { unit: self, answer }
+        self.answering(self.due_answer())
     }
 
-    fn command_answer(self) -> Command
+    fn command_answer(self) -> Result<u32, Cause>
         ensures { result ≡ command_of self }
     {
         if !self.sound() {
-            return Command::Refused(Cause::Unsound);
+            return Err(Cause::Unsound);
         }
-        Command::Parts(self.command)
+        Ok(self.command)
     }
 
     // The command, in parts.
-    pub fn command(self) -> CommandAsked
+    pub fn command(self) -> Done<u32>
         ensures { result ≡ command_asked self }
     {
-        let answer = self.command_answer();
-        CommandAsked { unit: self, answer }
+        self.answering(self.command_answer())
     }
 
-    fn free_answer(self) -> FreeBlocks
+    fn free_answer(self) -> Result<u32, Cause>
         ensures { result ≡ free_of self }
     {
         if !self.sound() {
-            return FreeBlocks::Refused(Cause::Unsound);
+            return Err(Cause::Unsound);
         }
-        let pool = self.pool;
-        FreeBlocks::Blocks(pool.free_count())
+        Ok(self.pool.free_count())
     }
 
     // How many blocks are free.
-    pub fn free_blocks(self) -> FreeAsked
+    pub fn free_blocks(self) -> Done<u32>
         ensures { result ≡ free_asked self }
     {
-        let answer = self.free_answer();
-        FreeAsked { unit: self, answer }
+        self.answering(self.free_answer())
     }
 }

@@ -4,29 +4,26 @@ ghost use Rattle.rules.specs.Writer.{written_of, buffer_after};
 ghost use Rattle.unit.specs.Request.{request_of};
 ghost use Rattle.unit.specs.Asked.{request_asked};
 
-use crate::{RequestAsked, Unit};
-use rules::{Cause, Written};
+use crate::{Done, Unit};
+use rules::Cause;
 
 impl Unit {
-    fn request_answer(self, segment: &[u8], out: &mut [u8]) -> Written
+    fn request_answer(self, segment: &[u8], out: &mut [u8]) -> Result<usize, Cause>
         ensures answer { result ≡ written_of (request_of self segment.now (length out.old)) }
         ensures buffer { out.new ≡ buffer_after (request_of self segment.now (length out.old)) out.old }
     {
         if !self.sound() {
-            return Written::Refused(Cause::Unsound);
+            return Err(Cause::Unsound);
         }
         let plant = self.plant;
-        let id = plant.id;
-        let mac = plant.mac;
-        request::request(&id, &mac, segment, out)
+        request::request(&plant.id, &plant.mac, segment, out)
     }
 
     // Writes the request for a segment into the buffer, or refuses with cause 4, 7 or 15 and writes nothing.
-    pub fn request(self, segment: &[u8], out: &mut [u8]) -> RequestAsked
+    pub fn request(self, segment: &[u8], out: &mut [u8]) -> Done<usize>
         ensures answer { result ≡ request_asked self segment.now (length out.old) }
         ensures buffer { out.new ≡ buffer_after (request_of self segment.now (length out.old)) out.old }
     {
-        let answer = self.request_answer(segment, out);
-        RequestAsked { unit: self, answer }
+        self.answering(self.request_answer(segment, out))
     }
 }

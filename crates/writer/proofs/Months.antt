@@ -67,47 +67,45 @@ module _ (schedule plant : List ℕ) where
         (length-append (month_bytes m (take s rates)) (months_bytes k (suc m) (drop s rates))
         ∙ omega (arith, month-length schedule plant (take s rates) m hs hp))
 
--- a loop that puts month after month: `month` is the next one, its rates begin at `from` and its record at `place`
-pub record Going (before : List ℕ) (at : ℕ) (schedule plant : List ℕ) (first end : ℕ) (rates out : List ℕ) (month from place : ℕ) : Type 0 where
+-- a loop that puts month after month: `month` is the next one, its w.rates begin at `from` and its record at `place`
+pub record Going (before : List ℕ) (at : ℕ) (w : Fields) (first end : ℕ) (out : List ℕ) (month from place : ℕ) : Type 0 where
   pub order : month ≤ end
-  pub same : length out ≡ length before
-  pub full : first_slot month + length rates ≡ from + first_slot end
-  pub enough : place + (55 * (end - month) + (length rates - from)) ≤ length out
-  pub rest : placed out place (months_bytes schedule plant (end - month) month (drop from rates))
-      ≡ placed before at (months_bytes schedule plant (end - first) first rates)
+  pub full : first_slot month + length w.rates ≡ from + first_slot end
+  pub enough : place + (55 * (end - month) + (length w.rates - from)) ≤ length out
+  pub rest : placed out place (months_bytes w.schedule w.plant (end - month) month (drop from w.rates))
+      ≡ placed before at (months_bytes w.schedule w.plant (end - first) first w.rates)
 
-module _ {before : List ℕ} {at : ℕ} {schedule plant : List ℕ} {first end : ℕ} {rates : List ℕ}
-    (h : MonthsRoom (length before) at schedule plant first end rates) where
-  pub months-start : Going before at schedule plant first end rates before first 0 at
-  months-start = record { order = h.given.order; same = refl; full = omega (arith, h.given.full); enough = omega (arith, h.enough); rest = refl }
+module _ {before : List ℕ} {at : ℕ} {w : Fields} {first end : ℕ} (h : MonthsRoom (length before) at w first end) where
+  pub months-start : Going before at w first end before first 0 at
+  months-start = record { order = h.given.order; full = omega (arith, h.given.full); enough = omega (arith, h.enough); rest = refl }
 
-  module _ {out : List ℕ} {month from place : ℕ} (g : Going before at schedule plant first end rates out month from place) where
-    pub months-end : end ≤ month → out ≡ placed before at (months_bytes schedule plant (end - first) first rates)
+  module _ {out : List ℕ} {month from place : ℕ} (g : Going before at w first end out month from place) where
+    pub months-end : end ≤ month → out ≡ placed before at (months_bytes w.schedule w.plant (end - first) first w.rates)
     months-end l =
         let e : end - month ≡ 0 = omega arith in
-        sym (placed-none out place) ∙ rw (e, months-none schedule plant month (drop from rates)) at g.rest
+        sym (placed-none out place) ∙ rw (e, months-none w.schedule w.plant month (drop from w.rates)) at g.rest
 
     module _ (days : ℕ) (d : days ≡ days_of_month month) (l : month < end) where
-      -- the month's rates
+      -- the month's w.rates
       abbrev pub to : ℕ
       to = from + slots_of_day * days
 
       abbrev pub these : List ℕ
-      these = take (to - from) (drop from rates)
+      these = take (to - from) (drop from w.rates)
 
-      pub part-within : to ≤ length rates
+      pub part-within : to ≤ length w.rates
       part-within = omega (arith, slots-before month end l, g.full, d)
 
       part_length : length these ≡ slots_of_day * days
       part_length =
-          let w = part-within in
-          let left = length-drop from rates in
+          let within = part-within in
+          let left = length-drop from w.rates in
           let e : to - from ≡ slots_of_day * days = omega arith in
-          rw e (length-take-le (slots_of_day * days) (drop from rates) (omega arith))
+          rw e (length-take-le (slots_of_day * days) (drop from w.rates) (omega arith))
 
-      pub month-room : MonthRoom (length out) place schedule plant these
+      pub month-room : MonthRoom (length out) place w.schedule w.plant these
       month-room =
-          let w = part-within in
+          let within = part-within in
           let p = part_length in
           let few = days-range month in
           record {
@@ -117,32 +115,28 @@ module _ {before : List ℕ} {at : ℕ} {schedule plant : List ℕ} {first end :
             enough = omega (arith, g.enough);
           }
 
-      pub place-within : place + (55 + slots_of_day * days) ≤ length out
-      place-within = omega (arith, part_length, month-room.enough)
-
-      pub months-step : {o : List ℕ} → length o ≡ length out → o ≡ placed out place (month_bytes schedule plant month these)
-          → Going before at schedule plant first end rates o (month + 1) to (place + (55 + slots_of_day * days))
+      pub months-step : {o : List ℕ} → length o ≡ length out → o ≡ placed out place (month_bytes w.schedule w.plant month these)
+          → Going before at w first end o (month + 1) to (place + (55 + slots_of_day * days))
       months-step {o} len p =
-          let w = part-within in
+          let within = part-within in
           let pl = part_length in
-          let ml = month-length schedule plant these month h.given.schedule-long h.given.plant-long in
+          let ml = month-length w.schedule w.plant these month h.given.schedule-long h.given.plant-long in
           let k : end - month ≡ suc (end - (month + 1)) = omega arith in
           let e : to - from ≡ slots_of_month month = omega arith in
           let back : from + (to - from) ≡ to = omega arith in
-          let left : List ℕ = drop from rates in
+          let left : List ℕ = drop from w.rates in
           let k' = end - (month + 1) in
-          let bytes : months_bytes schedule plant (end - month) month left
-          ≡ month_bytes schedule plant month these ++ months_bytes schedule plant k' (month + 1) (drop to rates) =
-          rw (k, months-more schedule plant k' month left, drop-drop (slots_of_month month) from rates, ← e, back, add-one month) refl in
+          let bytes : months_bytes w.schedule w.plant (end - month) month left
+          ≡ month_bytes w.schedule w.plant month these ++ months_bytes w.schedule w.plant k' (month + 1) (drop to w.rates) =
+          rw (k, months-more w.schedule w.plant k' month left, drop-drop (slots_of_month month) from w.rates, ← e, back, add-one month) refl in
           let step = first-slot-step month in
           let next : first_slot (month + 1) ≡ first_slot (suc month) = rw add-one refl in
           record {
             order = omega arith;
-            same = len ∙ g.same;
             full = omega (arith, g.full);
             enough = omega (arith, g.enough);
             rest =
-                placed-next out (month_bytes schedule plant month these) (months_bytes schedule plant k' (month + 1) (drop to rates)) place p (omega arith)
+                placed-next out (month_bytes w.schedule w.plant month these) (months_bytes w.schedule w.plant k' (month + 1) (drop to w.rates)) place p (omega arith)
                 ∙ ap (placed out place) (sym bytes)
                 ∙ g.rest;
           }

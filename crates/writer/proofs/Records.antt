@@ -7,13 +7,14 @@ use lib.ListN.{length, replicate, set, length-append}
 use Rattle.rules.specs.Digits.{decimal}
 use Rattle.rules.specs.Body.{encode_record}
 use Rattle.rules.specs.File.{checksum_of}
-use Rattle.rules.specs.Writer.{month_start, month_record, update_record}
+use Rattle.rules.specs.Writer.{Fields, month_start, month_record, update_record}
 use Rattle.laws.proofs.Bytes.{length-decimal}
 use Rattle.digits.specs.Placed.{placed}
 use Rattle.digits.proofs.Placing.{placed-next, placed_one}
 use Rattle.layout.specs.Records.{checksum_for}
 use Rattle.layout.proofs.Counts.{checksum-is}
-use Rattle.plan.specs.Fields.{fields_of, month_fields}
+use Rattle.plan.specs.Fields.{month_fields}
+use Rattle.plan.specs.Given.{UpdateGiven}
 use Rattle.writer.specs.Bodies.{head}
 use Rattle.writer.specs.Room.{MonthRoom, UpdateRoom}
 
@@ -65,12 +66,10 @@ unfolding encode_record
 month-bytes schedule plant start rates m s e es =
     head_more schedule plant start rates (decimal 2 s) ∙ rw (es, e, append-nil (decimal 2 (checksum_of (month_start m) rates))) refl
 
-pub update-bytes : (format : ℕ) (schedule plant start next rates : List ℕ) (flag s : ℕ) → s ≡ checksum_of start rates
-    → head schedule plant start rates ++ ((flag ∷ []) ++ (decimal 2 s ++ next))
-    ≡ encode_record (update_record (fields_of format plant schedule start next rates flag))
+pub update-bytes : (w : Fields) (s : ℕ) → s ≡ checksum_of w.start w.rates
+    → head w.schedule w.plant w.start w.rates ++ ((w.flag ∷ []) ++ (decimal 2 s ++ w.next)) ≡ encode_record (update_record w)
 unfolding encode_record update_record
-update-bytes format schedule plant start next rates flag s es =
-    head_more schedule plant start rates ((flag ∷ []) ++ (decimal 2 s ++ next)) ∙ rw es refl
+update-bytes w s es = head_more w.schedule w.plant w.start w.rates ((w.flag ∷ []) ++ (decimal 2 s ++ w.next)) ∙ rw es refl
 
 pub month-length : (schedule plant rates : List ℕ) (m : ℕ) → length schedule ≡ 10 → length plant ≡ 26
     → length (encode_record (month_record (month_fields plant schedule) m rates)) ≡ 55 + length rates
@@ -81,15 +80,14 @@ month-length schedule plant rates m hs hp =
     let l = length-append (head schedule plant start rates) (decimal 2 s) in
     omega (arith, ap length e, l, head-length schedule plant start rates hs hp (start-length m), length-decimal 2 s)
 
-pub update-length : (format : ℕ) (schedule plant start next rates : List ℕ) (flag : ℕ)
-    → length schedule ≡ 10 → length plant ≡ 26 → length start ≡ 12 → length next ≡ 14
-    → length (encode_record (update_record (fields_of format plant schedule start next rates flag))) ≡ 70 + length rates
-update-length format schedule plant start next rates flag hs hp ht hn =
-    let s = checksum_of start rates in
-    let e = update-bytes format schedule plant start next rates flag s refl in
-    let l₁ = length-append (head schedule plant start rates) ((flag ∷ []) ++ (decimal 2 s ++ next)) in
-    let l₂ = length-append (decimal 2 s) next in
-    omega (arith, ap length e, l₁, l₂, head-length schedule plant start rates hs hp ht, length-decimal 2 s)
+pub update-length : (w : Fields) → UpdateGiven w → length (encode_record (update_record w)) ≡ 70 + length w.rates
+update-length w g =
+    let s = checksum_of w.start w.rates in
+    let e = update-bytes w s refl in
+    let l₁ = length-append (head w.schedule w.plant w.start w.rates) ((w.flag ∷ []) ++ (decimal 2 s ++ w.next)) in
+    let l₂ = length-append (decimal 2 s) w.next in
+    let next-long = g.next-long in
+    omega (arith, ap length e, l₁, l₂, head-length w.schedule w.plant w.start w.rates g.schedule-long g.plant-long g.start-long, length-decimal 2 s)
 
 -- ---- a month's record and an update's, put after their heads: s is the checksum that was computed
 
@@ -103,20 +101,21 @@ month-placed out ident plant start rates at m r e {s} es ea eb =
     ∙ placed-next out (head ident plant start rates) (decimal 2 s) at ea (omega arith)
     ∙ ap (placed out at) (month-bytes ident plant start rates m s e (es ∙ checksum-is start rates r.few))
 
-pub update-placed : (out ident plant start next rates : List ℕ) (at flag : ℕ) → UpdateRoom (length out) at ident plant start next rates
-    → {s : ℕ} → s ≡ checksum_for start rates → {a b c : List ℕ} → a ≡ placed out at (head ident plant start rates)
-    → b ≡ placed (set a (at + 53 + length rates) flag) (at + 53 + length rates + 1) (decimal 2 s)
-    → c ≡ placed b (at + 53 + length rates + 1 + 2) next
-    → c ≡ placed out at (encode_record (update_record (fields_of 203 plant ident start next rates flag)))
-update-placed out ident plant start next rates at flag r {s} es {a} ea eb ec =
+pub update-placed : (out : List ℕ) (at : ℕ) (w : Fields) → UpdateRoom (length out) at w
+    → {s : ℕ} → s ≡ checksum_for w.start w.rates → {a b c : List ℕ} → a ≡ placed out at (head w.schedule w.plant w.start w.rates)
+    → b ≡ placed (set a (at + 53 + length w.rates) w.flag) (at + 53 + length w.rates + 1) (decimal 2 s)
+    → c ≡ placed b (at + 53 + length w.rates + 1 + 2) w.next
+    → c ≡ placed out at (encode_record (update_record w))
+update-placed out at w r {s} es {a} ea eb ec =
     let g = r.given in
-    let h = head-length ident plant start rates g.schedule-long g.plant-long g.start-long in
-    let few : length rates ≤ 99999 = omega (arith, g.few) in
-    let x = at + 53 + length rates in
+    let front = head w.schedule w.plant w.start w.rates in
+    let h = head-length w.schedule w.plant w.start w.rates g.schedule-long g.plant-long g.start-long in
+    let few : length w.rates ≤ 99999 = omega (arith, g.few) in
+    let x = at + 53 + length w.rates in
     let two = length-decimal 2 s in
-    let one = placed_one a x flag in
+    let one = placed_one a x w.flag in
     ec
-    ∙ placed-next (set a x flag) (decimal 2 s) next (x + 1) eb (omega arith)
-    ∙ placed-next a (flag ∷ []) (decimal 2 s ++ next) x (sym one) refl
-    ∙ placed-next out (head ident plant start rates) ((flag ∷ []) ++ (decimal 2 s ++ next)) at ea (omega arith)
-    ∙ ap (placed out at) (update-bytes 203 ident plant start next rates flag s (es ∙ checksum-is start rates few))
+    ∙ placed-next (set a x w.flag) (decimal 2 s) w.next (x + 1) eb (omega arith)
+    ∙ placed-next a (w.flag ∷ []) (decimal 2 s ++ w.next) x (sym one) refl
+    ∙ placed-next out front ((w.flag ∷ []) ++ (decimal 2 s ++ w.next)) at ea (omega arith)
+    ∙ ap (placed out at) (update-bytes w s (es ∙ checksum-is w.start w.rates few))

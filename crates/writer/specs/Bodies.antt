@@ -1,7 +1,7 @@
 -- What is written: the front of a record, and the bodies where there is room, one of whole months, and an update's.
 use Rattle.std.specs.Prelude.{ℕ, List, [], ◌∷◌, ◌++◌, length}
 use Rattle.rules.specs.Digits.{decimal}
-use Rattle.rules.specs.Body.{schedule, encode_body}
+use Rattle.rules.specs.Body.{Record, schedule, encode_body}
 use Rattle.rules.specs.Writer.{Fields, month_records, update_record}
 use Rattle.plan.specs.Fields.{month_fields}
 
@@ -9,9 +9,12 @@ use Rattle.plan.specs.Fields.{month_fields}
 abbrev pub head : List ℕ → List ℕ → List ℕ → List ℕ → List ℕ
 head ident plant start rates = ident ++ (plant ++ (start ++ (decimal 5 (length rates) ++ rates)))
 
--- k months from month m on, of rates end to end
-abbrev pub months_body : List ℕ → List ℕ → ℕ → ℕ → List ℕ → List ℕ
-months_body ident plant k m rates = encode_body (schedule (month_records (month_fields plant ident) k m rates))
+-- k months from month m on, of the fields' rates end to end: their records, and their body
+abbrev pub months_of : Fields → ℕ → ℕ → List Record
+months_of w k m = month_records (month_fields w.plant w.schedule) k m w.rates
+
+abbrev pub months_body : Fields → ℕ → ℕ → List ℕ
+months_body w k m = encode_body (schedule (months_of w k m))
 
 abbrev pub update_body : Fields → List ℕ
 update_body w = encode_body (schedule (update_record w ∷ []))

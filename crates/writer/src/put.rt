@@ -9,10 +9,8 @@ pub(crate) fn put_number(out: &mut [u8], at: usize, width: usize, number: u32)
     ensures { out.new ≡ placed out.old at (decimal width number) }
 {
     let mut left = number;
-    let mut i = at + width;
-    while at < i {
-        i -= 1;
+    for i in (at..at + width).rev() {
         out[i] = (left % 10) as u8;
-        left = left / 10;
+        left /= 10;
     }
 }

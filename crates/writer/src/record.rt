@@ -1,13 +1,14 @@
 // The records of a body, put into a buffer at a place.
 ghost use Rattle.std.specs.Prelude.{◌≡◌, ◌-◌, length};
 ghost use Rattle.rules.specs.Body.{encode_record, encode_records};
-ghost use Rattle.rules.specs.Writer.{month_start, month_record, month_records, update_record};
+ghost use Rattle.rules.specs.Writer.{month_start, month_record, update_record};
 ghost use Rattle.digits.specs.Placed.{placed};
-ghost use Rattle.plan.specs.Fields.{fields_of, month_fields};
-ghost use Rattle.writer.specs.Bodies.{head};
+ghost use Rattle.plan.specs.Fields.{given, month_fields};
+ghost use Rattle.writer.specs.Bodies.{head, months_of};
 ghost use Rattle.writer.specs.Room.{HeadRoom, MonthRoom, UpdateRoom, MonthsRoom};
 
 use crate::put::put_number;
+use plan::Fields;
 
 const FIRST_YEAR: u32 = 2000;
 
@@ -38,79 +39,62 @@ pub(crate) const MONTH_LENGTH: usize = layout::RATES + layout::CHECKSUM_DIGITS;
 pub(crate) const UPDATE_LENGTH: usize = MONTH_LENGTH + layout::FLAG_DIGITS + layout::NEXT_DIGITS;
 
 // A record up to and with its rates.
-fn put_head(out: &mut [u8], at: usize, schedule: &[u8], plant: &[u8], start: &[u8], rates: &[u8])
-    requires { HeadRoom (length out.old) at schedule.now plant.now start.now rates.now }
-    ensures { out.new ≡ placed out.old at (head schedule.now plant.now start.now rates.now) }
+fn put_head(out: &mut [u8], at: usize, fields: Fields)
+    requires { HeadRoom (length out.old) at fields.schedule.now fields.plant.now fields.start.now fields.rates.now }
+    ensures { out.new ≡ placed out.old at (head fields.entry.schedule.now fields.entry.plant.now fields.entry.start.now fields.entry.rates.now) }
 {
-    digits::put(out, at, schedule);
-    digits::put(out, at + layout::PLANT, plant);
-    digits::put(out, at + layout::START, start);
+    digits::put(out, at, fields.schedule);
+    digits::put(out, at + layout::PLANT, fields.plant);
+    digits::put(out, at + layout::START, fields.start);
     put_number(
         out,
         at + layout::RATE_COUNT,
         layout::COUNT_DIGITS,
-        rates.len() as u32,
+        fields.rates.len() as u32,
     );
-    digits::put(out, at + layout::RATES, rates);
+    digits::put(out, at + layout::RATES, fields.rates);
 }
 
-// The record of a month and its rates.
-fn put_month(out: &mut [u8], at: usize, schedule: &[u8], plant: &[u8], month: u16, rates: &[u8])
-    requires { MonthRoom (length out.old) at schedule.now plant.now rates.now }
-    ensures { out.new ≡ placed out.old at (encode_record (month_record (month_fields plant.now schedule.now) month rates.now)) }
+// The record of a month, whose rates are all those given; the start given is not looked at.
+fn put_month(out: &mut [u8], at: usize, fields: Fields, month: u16)
+    requires { MonthRoom (length out.old) at fields.schedule.now fields.plant.now fields.rates.now }
+    ensures { out.new ≡ placed out.old at (encode_record (month_record (month_fields fields.entry.plant.now fields.entry.schedule.now) month fields.entry.rates.now)) }
 {
-    let start = month_start(month);
-    let sum = layout::checksum(&start, rates);
-    put_head(out, at, schedule, plant, &start, rates);
-    let at_sum = at + layout::RATES + rates.len();
+    let digits = month_start(month);
+    let start = &digits;
+    let sum = layout::checksum(start, fields.rates);
+    put_head(out, at, Fields { start, ..fields });
+    let at_sum = at + layout::RATES + fields.rates.len();
     put_number(out, at_sum, layout::CHECKSUM_DIGITS, sum);
 }
 
 // The records of the months from `first` to before `end`, whose rates stand end to end.
-pub(crate) fn put_months(
-    out: &mut [u8],
-    at: usize,
-    schedule: &[u8],
-    plant: &[u8],
-    first: u16,
-    end: u16,
-    rates: &[u8],
-)
-    requires { MonthsRoom (length out.old) at schedule.now plant.now first end rates.now }
-    ensures { out.new ≡ placed out.old at (encode_records (month_records (month_fields plant.now schedule.now) (end - first) first rates.now)) }
+pub(crate) fn put_months(out: &mut [u8], at: usize, fields: Fields, first: u16, end: u16)
+    requires { MonthsRoom (length out.old) at (given fields) first end }
+    ensures { out.new ≡ placed out.old at (encode_records (months_of (given fields.entry) (end - first) first)) }
 {
-    let mut month = first;
     let mut from = 0;
     let mut place = at;
-    while month < end {
+    for month in first..end {
         let slots = SLOTS_OF_DAY * (calendar::days_of_month(month) as usize);
         let to = from + slots;
-        put_month(out, place, schedule, plant, month, &rates[from..to]);
+        let rates = &fields.rates[from..to];
+        put_month(out, place, Fields { rates, ..fields }, month);
         place += MONTH_LENGTH + slots;
         from = to;
-        month += 1;
     }
 }
 
 // The record of an update.
-pub(crate) fn put_update(
-    out: &mut [u8],
-    at: usize,
-    schedule: &[u8],
-    plant: &[u8],
-    start: &[u8],
-    next: &[u8],
-    rates: &[u8],
-    flag: u8,
-)
-    requires { UpdateRoom (length out.old) at schedule.now plant.now start.now next.now rates.now }
-    ensures { out.new ≡ placed out.old at (encode_record (update_record (fields_of 203 plant.now schedule.now start.now next.now rates.now flag))) }
+pub(crate) fn put_update(out: &mut [u8], at: usize, fields: Fields)
+    requires { UpdateRoom (length out.old) at (given fields) }
+    ensures { out.new ≡ placed out.old at (encode_record (update_record (given fields.entry))) }
 {
-    let sum = layout::checksum(start, rates);
-    put_head(out, at, schedule, plant, start, rates);
-    let at_flag = at + layout::RATES + rates.len();
-    out[at_flag] = flag;
+    let sum = layout::checksum(fields.start, fields.rates);
+    put_head(out, at, fields);
+    let at_flag = at + layout::RATES + fields.rates.len();
+    out[at_flag] = fields.flag as u8;
     let at_sum = at_flag + layout::FLAG_DIGITS;
     put_number(out, at_sum, layout::CHECKSUM_DIGITS, sum);
-    digits::put(out, at_sum + layout::CHECKSUM_DIGITS, next);
+    digits::put(out, at_sum + layout::CHECKSUM_DIGITS, fields.next);
 }

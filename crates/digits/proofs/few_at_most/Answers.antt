@@ -1,28 +1,15 @@
-use mathlib.Core.Path.{◌∙◌, refl, sym}
-use native.Mathlib.Omega.{arith}
+use mathlib.Core.Path.{◌∙◌, sym}
 use Rattle.digits.proofs.Scan.{flag-step, flag-end}
 use Rattle.digits.proofs.few_at_most.Goals as goal
 
-pub loop-i-init : goal.loop-i-init
-loop-i-init c = (omega arith, refl)
-
-pub bounds-s-i : goal.bounds-s-i
-bounds-s-i c = omega arith
-
-pub overflow_add-i : goal.overflow_add-i
-overflow_add-i c = omega arith
-
-pub loop-i-smaller : goal.loop-i-smaller
-loop-i-smaller c = omega arith
-
-pub loop-i-preserved : goal.loop-i-preserved
-loop-i-preserved c =
+pub loop-x-preserved : goal.loop-x-preserved
+loop-x-preserved c =
     let a = c.args in
-    let l = c.loop-i in
-    (omega arith, l.invariant.1 ∙ flag-step a.s.now l.i l.all a.most c.loop-i-test.true)
+    let l = c.loop-x in
+    l.invariant ∙ flag-step a.s.now l.x-index l.all a.most c.loop-x-test.true
 
 pub returns : goal.returns
 returns c =
     let a = c.args in
-    let l = c.loop-i in
-    sym (l.invariant.1 ∙ flag-end a.s.now l.i l.all a.most c.loop-i-test.false)
+    let l = c.loop-x in
+    sym (l.invariant ∙ flag-end a.s.now l.x-index l.all a.most c.loop-x-test.false)

@@ -1,37 +1,24 @@
-use mathlib.Core.Path.{◌∙◌, refl, sym}
+use mathlib.Core.Path.{◌∙◌, sym, ap}
+use lib.ListN.{length}
 use native.Mathlib.Omega.{arith}
-use Rattle.digits.proofs.Scan.{same_step, same_end, same_length}
+use Rattle.std.proofs.lemmas.Iterator.{empty_from_Zip}
+use Rattle.std.proofs.lemmas.Slice.Zip.{Zip-more}
+use Rattle.digits.proofs.Scan.{same_next, same_none, same_length}
 use Rattle.digits.proofs.same.Goals as goal
 
 pub returns-then-a-b : goal.returns-then-a-b
 returns-then-a-b c = sym (same_length _ _ c.if-a-b.true)
 
-pub loop-i-init : goal.loop-i-init
-loop-i-init c = (omega arith, c.if-a-b.false, refl)
-
-pub bounds-a-i : goal.bounds-a-i
-bounds-a-i c = omega arith
-
-pub bounds-b-i : goal.bounds-b-i
-bounds-b-i c = omega arith
-
-pub overflow_add-i : goal.overflow_add-i
-overflow_add-i c = omega arith
-
-pub loop-i-smaller : goal.loop-i-smaller
-loop-i-smaller c = omega arith
-
-pub loop-i-preserved : goal.loop-i-preserved
-loop-i-preserved c =
-    let a = c.args in
-    let l = c.loop-i in (
-      omega arith,
-      l.invariant.1,
-      l.invariant.2 ∙ same_step a.a.now l.i l.all a.b.now c.loop-i-test.true (omega arith),
-    )
+pub loop-x-preserved : goal.loop-x-preserved
+loop-x-preserved c =
+    let l = c.loop-x in
+    let more = Zip-more l.x-iterator c.next.new.self _ (c.in-Some.x, c.in-Some.y) c.in-Some.is c.next.ensures.steps in
+    let shorter = ap length more.0 in
+    let both_shorter = ap length more.1 in
+    (omega arith, l.invariant.1 ∙ same_next l.all more.0 more.1)
 
 pub returns : goal.returns
 returns c =
-    let a = c.args in
-    let l = c.loop-i in
-    sym (l.invariant.2 ∙ same_end a.a.now l.i l.all a.b.now c.loop-i-test.false (omega arith))
+    let l = c.loop-x in
+    let none = empty_from_Zip l.x-iterator c.next.new.self _ c.in-None.is c.next.ensures.steps l.invariant.0 in
+    sym (l.invariant.1 ∙ same_none l.all none.0 none.1)

@@ -1,60 +1,29 @@
-use mathlib.Core.Path.{sym}
+use mathlib.Core.Path.{◌∙◌, sym, ap}
 use native.Mathlib.Omega.{arith}
 use borrow.Author.Tests.{le-leb, lt-leb}
-use lib.ListN.{length, length-take, length-drop}
-use lib.Seq.{length-take-le}
-use Rattle.laws.proofs.Bytes.{part-rest}
+use lib.ListN.{length, length-append}
+use Rattle.std.specs.Slice.Iter.{chunks_exact_rest}
+use Rattle.rules.specs.File.{sum}
 use Rattle.digits.specs.Decimal.{rates_sum}
-use Rattle.digits.proofs.Scan.{sum-parts}
+use Rattle.digits.proofs.Scan.{sum-append, remainder-next, remainder-end}
 use Rattle.digits.proofs.sum.Goals as goal
 
 pub returns-then-s-gt99999 : goal.returns-then-s-gt99999
 unfolding rates_sum
 returns-then-s-gt99999 c = rw (lt-leb (length c.args.s.now) 99999 c.if-s-gt99999.true)
 
-pub loop-t-init : goal.loop-t-init
-loop-t-init c = (omega arith, omega arith, omega arith)
-
-pub slice_bounds-stretch_sum-end : goal.slice_bounds-stretch_sum-end
-slice_bounds-stretch_sum-end c = sym (length-take-le 256 c.loop-t.t.now c.loop-t-test.true)
-
-pub stretch_sum-requires : goal.stretch_sum-requires
-stretch_sum-requires c = rw (length-take 256 c.loop-t.t.now) (omega arith)
-
-pub overflow_cast-total : goal.overflow_cast-total
-overflow_cast-total c = omega arith
-
-pub overflow_add-total : goal.overflow_add-total
-overflow_add-total c = omega arith
-
-pub slice_bounds-t-count : goal.slice_bounds-t-count
-slice_bounds-t-count c = omega arith
-
-pub loop-t-smaller : goal.loop-t-smaller
-loop-t-smaller c =
-    let t = c.loop-t.t.now in
-    rw (part-rest t 256, length-drop 256 t) (omega arith)
-
-pub loop-t-preserved : goal.loop-t-preserved
-loop-t-preserved c =
-    let l = c.loop-t in
-    let t = l.t.now in
-    let e = c.stretch_sum.ensures in
-    let h = sum-parts 256 t in
-    (l.invariant.0, rw (part-rest t 256, length-drop 256 t) (omega arith), rw (part-rest t 256) (omega arith))
-
-pub stretch_sum-requires-2 : goal.stretch_sum-requires-2
-stretch_sum-requires-2 c = omega arith
-
-pub overflow_cast-result : goal.overflow_cast-result
-overflow_cast-result c = omega arith
-
-pub overflow_add-result : goal.overflow_add-result
-overflow_add-result c = omega arith
+pub loop-stretch-preserved : goal.loop-stretch-preserved
+loop-stretch-preserved c =
+    let step = c.in-Some.ensures.steps in
+    let left = step.1.0 in
+    let lengths = simp length-append at (ap length left) in
+    let sums = ap sum left ∙ sum-append c.in-Some.stretch.now _ in
+    (omega arith, omega arith, omega arith, remainder-next c.in-Some.stretch.now _ left (omega arith) ∙ c.loop-stretch.invariant.3)
 
 pub returns : goal.returns
 unfolding rates_sum
 returns c =
-    let l = c.loop-t in
-    let e = c.stretch_sum-2.ensures in
-    rw (le-leb (length c.args.s.now) 99999 l.invariant.0) (omega arith)
+    let short = c.in-None.ensures.steps.1.0 in
+    let rest = remainder-end (chunks_exact_rest c.loop-stretch.stretch-iterator) (omega arith) in
+    let sums = ap sum (c.remainder-rest.ensures ∙ c.chunks_exact-stretches.ensures.remainder ∙ sym c.loop-stretch.invariant.3 ∙ rest) in
+    rw (le-leb (length c.args.s.now) 99999 c.if-s-gt99999.false) (omega arith)

@@ -6,8 +6,8 @@ use Rattle.form.proofs.count_holds.Goals as goal
 pub returns-then-body-lt-RECORDS : goal.returns-then-body-lt-RECORDS
 returns-then-body-lt-RECORDS c = count-missing _ _ c.if-body-lt-RECORDS.true
 
-pub returns-in-Number : goal.returns-in-Number
-returns-in-Number c = count-number _ _ c.if-body-lt-RECORDS.false (sym c.in-Number.is ∙ c.number.ensures) c.record_count.ensures
+pub returns-in-Some : goal.returns-in-Some
+returns-in-Some c = count-number _ _ c.if-body-lt-RECORDS.false (sym c.in-Some.is ∙ c.number.ensures) c.record_count.ensures
 
-pub returns-in-Broken : goal.returns-in-Broken
-returns-in-Broken c = count-broken _ _ c.if-body-lt-RECORDS.false (sym c.in-Broken.is ∙ c.number.ensures)
+pub returns-in-None : goal.returns-in-None
+returns-in-None c = count-broken _ _ c.if-body-lt-RECORDS.false (sym c.in-None.is ∙ c.number.ensures)

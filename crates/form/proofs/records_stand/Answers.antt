@@ -1,43 +1,35 @@
-use Prim.Native.Nat.{ℕ, ◌+◌}
-use mathlib.Core.Path.{◌≡◌, ◌∙◌, sym, ap}
-use borrow.Author.Tests.{not-true, not-false}
+use Prim.Native.Nat.{◌+◌}
+use mathlib.Core.Path.{◌≡◌, ◌∙◌, sym}
+use native.Mathlib.Omega.{arith}
 use Rattle.rules.specs.Body.{size_of}
-use Rattle.rules.specs.declared.Format.{Format}
-use Rattle.form.specs.Walk.{shaped, Whole}
+use Rattle.form.specs.Walk.{Whole}
 use Rattle.form.proofs.Walk.{whole, within, sized, size-here, shape-end, shape-step, shape_stop}
 use Rattle.form.proofs.records_stand.Goals as goal
+use Rattle.form.proofs.records_stand.Goals.{Else-not-record_stands}
 
-pub loop-left-init : goal.loop-left-init
-loop-left-init c =
-    let a = c.args in
-    ap (λ (k : ℕ). shaped a.format k a.s.now) (sym c.record_count-left.ensures)
+-- what is known of a record that stood
+stood : (c : Else-not-record_stands) → Whole c.args.format c.loop.t.now
+stood c = whole _ _ (sym c.if-not-record_stands.ensures)
+
+size : (c : Else-not-record_stands) → 53 + c.rate_count-rates.result + c.tail_digits-tail.result ≡ size_of c.args.format c.loop.t.now
+size c = size-here _ _ c.rate_count-rates.ensures.exact c.tail_digits-tail.ensures.exact (stood c)
 
 pub record_stands-requires : goal.record_stands-requires
 record_stands-requires c = sized _ _ c.rate_count-rates.ensures.exact c.tail_digits-tail.ensures.exact c.rate_count-rates.ensures.bound
 
 pub returns-then-not-record_stands : goal.returns-then-not-record_stands
-returns-then-not-record_stands c = sym (c.loop-left.invariant ∙ shape_stop _ _ _ c.loop-left-test.true (sym c.record_stands.ensures ∙ not-true _ c.if-not-record_stands.true-raw))
+returns-then-not-record_stands c = sym (c.loop.invariant ∙ shape_stop _ _ _ (omega (arith, c.loop-test.true)) (sym c.if-not-record_stands.ensures))
 
 pub slice_bounds-t-count : goal.slice_bounds-t-count
-slice_bounds-t-count c =
-    let format-of : Format = c.args.format in
-    let stood : Whole format-of c.loop-left.t.now = whole _ _ (sym c.record_stands.ensures ∙ not-false _ c.if-not-record_stands.false-raw) in
-    let size : 53 + c.rate_count-rates.result + c.tail_digits-tail.result ≡ size_of format-of c.loop-left.t.now = size-here _ _ c.rate_count-rates.ensures.exact c.tail_digits-tail.ensures.exact stood in
-    within _ _ stood size
+slice_bounds-t-count c = within _ _ (stood c) (size c)
 
 pub slice_bounds-t-start : goal.slice_bounds-t-start
-slice_bounds-t-start c =
-    let format-of : Format = c.args.format in
-    let stood : Whole format-of c.loop-left.t.now = whole _ _ (sym c.record_stands.ensures ∙ not-false _ c.if-not-record_stands.false-raw) in
-    let size : 53 + c.rate_count-rates.result + c.tail_digits-tail.result ≡ size_of format-of c.loop-left.t.now = size-here _ _ c.rate_count-rates.ensures.exact c.tail_digits-tail.ensures.exact stood in
-    within _ _ stood size
+slice_bounds-t-start c = within _ _ (stood c) (size c)
 
-pub loop-left-preserved : goal.loop-left-preserved
-loop-left-preserved c =
-    let format-of : Format = c.args.format in
-    let stood : Whole format-of c.loop-left.t.now = whole _ _ (sym c.record_stands.ensures ∙ not-false _ c.if-not-record_stands.false-raw) in
-    let size : 53 + c.rate_count-rates.result + c.tail_digits-tail.result ≡ size_of format-of c.loop-left.t.now = size-here _ _ c.rate_count-rates.ensures.exact c.tail_digits-tail.ensures.exact stood in
-    c.loop-left.invariant ∙ shape-step _ _ _ c.loop-left-test.true size (sym (not-false _ c.if-not-record_stands.false-raw) ∙ c.record_stands.ensures)
+pub loop-preserved : goal.loop-preserved
+loop-preserved c =
+    let e = (goal.at.loop-preserved c).Else-not-record_stands in
+    c.loop.invariant ∙ shape-step _ _ _ (omega (arith, c.loop-test.true)) (size e) c.if-not-record_stands.ensures
 
 pub returns : goal.returns
-returns c = sym (c.loop-left.invariant ∙ shape-end _ _ _ c.loop-left-test.false)
+returns c = sym (c.loop.invariant ∙ shape-end _ _ _ (omega (arith, c.loop-test.false)))

@@ -18,9 +18,14 @@ returns-then-out-at c =
 
 pub returns-then-out-at-2 : goal.returns-then-out-at-2
 returns-then-out-at-2 c =
-    let a = c.args in record { next = sym (place-stays (groups a.n) a.out.now a.at (omega arith)); bytes = sym (bytes-stay (groups a.n) a.out.now a.at (omega arith)) }
+    let a = c.args in
+    record { next = sym (place-stays (groups a.n) a.out.now a.at (omega arith)); bytes = sym (bytes-stay (groups a.n) a.out.now a.at (omega arith)) }
 
 pub returns : goal.returns
 returns c =
     let a = c.args in
-    let e = c.place.ensures in record { next = e.next ∙ sym (place-fits (groups a.n) a.out.now a.at (omega arith)); bytes = e.bytes ∙ sym (bytes_fit (groups a.n) a.out.now a.at (omega arith)) }
+    let e = c.place.ensures in
+    record {
+      next = e.next ∙ sym (place-fits (groups a.n) a.out.now a.at (omega arith));
+      bytes = e.bytes ∙ sym (bytes_fit (groups a.n) a.out.now a.at (omega arith));
+    }

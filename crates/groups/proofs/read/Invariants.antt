@@ -6,7 +6,8 @@ use Rattle.groups.proofs.Walk.{Left}
 use Rattle.groups.proofs.read.Given as goal
 
 abbrev pub invariant-loop-i : goal.invariant-loop-i
-invariant-loop-i l = (l.at < l.i) × (l.unit ≡ 128 ^ (l.i - l.at)) × (l.value < l.unit) × (reading_at l.s l.at ≡ Left l.s l.at l.value l.unit l.i)
-
-abbrev pub decreases-loop-i : goal.decreases-loop-i
-decreases-loop-i l = l.end - l.i
+invariant-loop-i l = record {
+  unit_here : l.unit ≡ 128 ^ (l.i - l.at);
+  below : l.value < l.unit;
+  rest : reading_at l.s l.at ≡ Left l.s l.at l.value l.unit l.i;
+}

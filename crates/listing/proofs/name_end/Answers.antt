@@ -1,34 +1,19 @@
-use mathlib.Core.Path.{◌∙◌, sym}
-use native.Mathlib.Omega.{arith}
-use Rattle.listing.proofs.Split.{name-more, name-stops, name-ends}
+-- `listing::name_end` meets its contract: the first 0A is where the name ends.
+use mathlib.Core.Path.{◌∙◌, ap}
+use borrow.Author.Tests.{tests}
+use lib.Dec.{eqb}
+use lib.ListN.{length}
+use Rattle.std.proofs.Common.{rules, ℕ, Option}
+use Rattle.std.proofs.lemmas.Iterator.{YieldsList-from_slice}
+use Rattle.std.proofs.lemmas.Iterator.Search.{position_from_yields_List}
+use Rattle.std.specs.Option.{unwrap_or}
+use Rattle.listing.proofs.Split.{name-found}
 use Rattle.listing.proofs.name_end.Goals as goal
-
-pub loop-i-init : goal.loop-i-init
-loop-i-init c = (omega arith, omega arith)
-
-pub bounds-input-i : goal.bounds-input-i
-bounds-input-i c = omega arith
-
-pub returns-then-input-i-eq-NAME_END : goal.returns-then-input-i-eq-NAME_END
-returns-then-input-i-eq-NAME_END c =
-    let x = c.args.input.now in
-    let l = c.loop-i in
-    sym (l.invariant.1 ∙ name-stops x l.i c.loop-i-test.true c.if-input-i-eq-NAME_END.true)
-
-pub overflow_add-i : goal.overflow_add-i
-overflow_add-i c = omega arith
-
-pub loop-i-smaller : goal.loop-i-smaller
-loop-i-smaller c = omega arith
-
-pub loop-i-preserved : goal.loop-i-preserved
-loop-i-preserved c =
-    let x = c.args.input.now in
-    let l = c.loop-i in
-    (omega arith, l.invariant.1 ∙ name-more x l.i c.loop-i-test.true c.if-input-i-eq-NAME_END.false)
 
 pub returns : goal.returns
 returns c =
     let x = c.args.input.now in
-    let l = c.loop-i in
-    sym (l.invariant.1 ∙ name-ends x l.i c.loop-i-test.false)
+    let found =
+    position_from_yields_List (λ (b : ℕ). eqb b 10) _ _ c.position.result c.position.ensures.ran (YieldsList-from_slice x cc)
+    (λ b t q k. search (rules, tests)) in
+    c.unwrap_or.ensures ∙ ap (λ (o : Option ℕ). unwrap_or o (length x)) found ∙ name-found x

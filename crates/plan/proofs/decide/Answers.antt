@@ -1,11 +1,14 @@
 -- `plan::decide` meets its contract. Each return has a law on the fields.
-use mathlib.Core.Path.{◌≡◌, ◌∙◌, sym}
+use Rattle.std.proofs.lemmas.Result.{err_from_is_err_and}
+use Rattle.laws.proofs.Options.{ok_some, err-none, err-cause}
+use mathlib.Core.Path.{◌≡◌, ◌∙◌, sym, ap}
+use Rattle.std.specs.Prelude.{Some}
 use mathlib.Core.Bool.{true}
 use borrow.Author.Tests.{not-true, not-false}
 use Rattle.rules.specs.Plant.{plant_id}
 use Rattle.rules.specs.Writer.{Fields, flag_fits}
-use Rattle.plan.specs.Fields.{fields_of}
-use Rattle.plan.proofs.Plans.{plan_id, plan-flag, plan_yearly, plan_monthly, plan_updating, plan-name}
+use Rattle.plan.specs.Fields.{given}
+use Rattle.plan.proofs.Plans.{plan_id, plan-flag, plan_format}
 use Rattle.plan.proofs.decide.Goals as goal
 
 pub returns-then-not-is_plant_id : goal.returns-then-not-is_plant_id
@@ -13,46 +16,47 @@ returns-then-not-is_plant_id c = plan_id _ (sym c.is_plant_id.ensures ∙ not-tr
 
 pub returns-then-not-flag-format : goal.returns-then-not-flag-format
 returns-then-not-flag-format c =
-    let fields : Fields = let a = c.args in
-    fields_of a.format a.plant.now a.schedule.now a.start.now a.next.now a.rates.now a.flag in
-    let given : Fields = fields in
-    let is-plant : plant_id given.plant ≡ true = sym c.is_plant_id.ensures ∙ not-false _ c.if-not-is_plant_id.false-raw in
-    plan-flag _ is-plant (not-true (flag_fits given) c.if-not-flag-format.true-raw)
+    let w : Fields = given c.args.fields in
+    let is-plant : plant_id w.plant ≡ true = sym c.is_plant_id.ensures ∙ not-false _ c.if-not-is_plant_id.false-raw in
+    plan-flag _ is-plant (not-true (flag_fits w) c.if-not-flag-format.true-raw)
 
-pub returns-then-format-eq-YEARLY : goal.returns-then-format-eq-YEARLY
-returns-then-format-eq-YEARLY c =
-    let fields : Fields = let a = c.args in
-    fields_of a.format a.plant.now a.schedule.now a.start.now a.next.now a.rates.now a.flag in
-    let given : Fields = fields in
-    let is-plant : plant_id given.plant ≡ true = sym c.is_plant_id.ensures ∙ not-false _ c.if-not-is_plant_id.false-raw in
-    let fits-flag : flag_fits given ≡ true = not-false (flag_fits given) c.if-not-flag-format.false-raw in
-    c.plan_months.ensures ∙ rw c.record_count.ensures (plan_yearly _ is-plant fits-flag c.if-format-eq-YEARLY.true)
+pub returns-in_err-known : goal.returns-in_err-known
+returns-in_err-known c =
+    let w : Fields = given c.args.fields in
+    let plant : plant_id w.plant ≡ true = sym c.is_plant_id.ensures ∙ not-false _ c.if-not-is_plant_id.false-raw in
+    let flag : flag_fits w ≡ true = not-false (flag_fits w) c.if-not-flag-format.false-raw in
+    let refused = sym c.in_err-known.was ∙ c.try_from.ensures in
+    let p = err_from_is_err_and c.from_residual.result c.from_residual.ensures.1 in
+    rw (p.1, p.2, err-cause _ _ refused) (plan_format w plant flag (err-none _ _ refused))
 
-pub returns-then-format-eq-MONTHLY : goal.returns-then-format-eq-MONTHLY
-returns-then-format-eq-MONTHLY c =
-    let fields : Fields = let a = c.args in
-    fields_of a.format a.plant.now a.schedule.now a.start.now a.next.now a.rates.now a.flag in
-    let given : Fields = fields in
-    let is-plant : plant_id given.plant ≡ true = sym c.is_plant_id.ensures ∙ not-false _ c.if-not-is_plant_id.false-raw in
-    let fits-flag : flag_fits given ≡ true = not-false (flag_fits given) c.if-not-flag-format.false-raw in
-    c.plan_months-then-format-eq-MONTHLY.ensures
-    ∙ rw c.record_count-then-format-eq-MONTHLY.ensures (plan_monthly _ is-plant fits-flag c.if-format-eq-YEARLY.false c.if-format-eq-MONTHLY.true)
+pub returns-in-F201 : goal.returns-in-F201
+returns-in-F201 c =
+    let w : Fields = given c.args.fields in
+    let plant : plant_id w.plant ≡ true = sym c.is_plant_id.ensures ∙ not-false _ c.if-not-is_plant_id.false-raw in
+    let flag : flag_fits w ≡ true = not-false (flag_fits w) c.if-not-flag-format.false-raw in
+    let known = ok_some _ _ (sym c.in_ok-known.was ∙ c.try_from.ensures) ∙ ap Some c.in-F201.is in
+    c.plan_months.ensures ∙ rw (c.record_count.ensures, c.in-F201.is) (plan_format w plant flag known)
 
-pub returns-then-format-eq-UPDATE : goal.returns-then-format-eq-UPDATE
-returns-then-format-eq-UPDATE c =
-    let fields : Fields = let a = c.args in
-    fields_of a.format a.plant.now a.schedule.now a.start.now a.next.now a.rates.now a.flag in
-    let given : Fields = fields in
-    let is-plant : plant_id given.plant ≡ true = sym c.is_plant_id.ensures ∙ not-false _ c.if-not-is_plant_id.false-raw in
-    let fits-flag : flag_fits given ≡ true = not-false (flag_fits given) c.if-not-flag-format.false-raw in
-    c.plan_update.ensures
-    ∙ plan_updating _ is-plant fits-flag c.if-format-eq-YEARLY.false c.if-format-eq-MONTHLY.false c.if-format-eq-UPDATE.true
+pub returns-in-F202 : goal.returns-in-F202
+returns-in-F202 c =
+    let w : Fields = given c.args.fields in
+    let plant : plant_id w.plant ≡ true = sym c.is_plant_id.ensures ∙ not-false _ c.if-not-is_plant_id.false-raw in
+    let flag : flag_fits w ≡ true = not-false (flag_fits w) c.if-not-flag-format.false-raw in
+    let known = ok_some _ _ (sym c.in_ok-known.was ∙ c.try_from.ensures) ∙ ap Some c.in-F202.is in
+    c.plan_months-in-F202.ensures ∙ rw (c.record_count-in-F202.ensures, c.in-F202.is) (plan_format w plant flag known)
 
-pub returns : goal.returns
-returns c =
-    let fields : Fields = let a = c.args in
-    fields_of a.format a.plant.now a.schedule.now a.start.now a.next.now a.rates.now a.flag in
-    let given : Fields = fields in
-    let is-plant : plant_id given.plant ≡ true = sym c.is_plant_id.ensures ∙ not-false _ c.if-not-is_plant_id.false-raw in
-    let fits-flag : flag_fits given ≡ true = not-false (flag_fits given) c.if-not-flag-format.false-raw in
-    plan-name _ is-plant fits-flag c.if-format-eq-YEARLY.false c.if-format-eq-MONTHLY.false c.if-format-eq-UPDATE.false
+pub returns-in-F203 : goal.returns-in-F203
+returns-in-F203 c =
+    let w : Fields = given c.args.fields in
+    let plant : plant_id w.plant ≡ true = sym c.is_plant_id.ensures ∙ not-false _ c.if-not-is_plant_id.false-raw in
+    let flag : flag_fits w ≡ true = not-false (flag_fits w) c.if-not-flag-format.false-raw in
+    let known = ok_some _ _ (sym c.in_ok-known.was ∙ c.try_from.ensures) ∙ ap Some c.in-F203.is in
+    c.plan_update.ensures ∙ plan_format w plant flag known
+
+pub returns-in-F301 : goal.returns-in-F301
+returns-in-F301 c =
+    let w : Fields = given c.args.fields in
+    let plant : plant_id w.plant ≡ true = sym c.is_plant_id.ensures ∙ not-false _ c.if-not-is_plant_id.false-raw in
+    let flag : flag_fits w ≡ true = not-false (flag_fits w) c.if-not-flag-format.false-raw in
+    let known = ok_some _ _ (sym c.in_ok-known.was ∙ c.try_from.ensures) ∙ ap Some c.in-F301.is in
+    plan_format w plant flag known

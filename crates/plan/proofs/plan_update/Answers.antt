@@ -12,45 +12,45 @@ use Rattle.plan.proofs.plan_update.Goals as goal
 pub returns-then-not-is_digits-few : goal.returns-then-not-is_digits-few
 returns-then-not-is_digits-few c =
     let flags : Bool = c.is_digits-2.result && c.is_digits-3.result
-    && (c.is_digits.result && leb (length c.args.rates.now) c.most_rates-most.result) in
+    && (c.is_digits.result && leb (length c.args.fields.rates.now) c.most_rates-most.result) in
     let form-tested : (t : Bool) → flags ≡ t
-    → let a = c.args in
+    → let a = c.args.fields in
     form_fits a.schedule.now a.start.now a.next.now a.rates.now ≡ t = λ t e. cc (c.is_digits-3.ensures, c.is_digits-2.ensures, c.is_digits.ensures, c.most_rates-most.ensures) in
     update-form _ _ _ _ (form-tested false (not-true flags c.if-not-is_digits-few.true-raw))
 
-pub overflow_cast-rates : goal.overflow_cast-rates
-overflow_cast-rates c =
+pub overflow_cast-fields : goal.overflow_cast-fields
+overflow_cast-fields c =
     let flags : Bool = c.is_digits-2.result && c.is_digits-3.result
-    && (c.is_digits.result && leb (length c.args.rates.now) c.most_rates-most.result) in
+    && (c.is_digits.result && leb (length c.args.fields.rates.now) c.most_rates-most.result) in
     let form-tested : (t : Bool) → flags ≡ t
-    → let a = c.args in
+    → let a = c.args.fields in
     form_fits a.schedule.now a.start.now a.next.now a.rates.now ≡ t = λ t e. cc (c.is_digits-3.ensures, c.is_digits-2.ensures, c.is_digits.ensures, c.most_rates-most.ensures) in
-    let formed : let a = c.args in
+    let formed : let a = c.args.fields in
     form_fits a.schedule.now a.start.now a.next.now a.rates.now ≡ true = form-tested true (not-false flags c.if-not-is_digits-few.false-raw) in
-    let a = c.args in
+    let a = c.args.fields in
     omega (arith, update-few a.schedule.now a.start.now a.next.now a.rates.now formed)
 
 pub returns-then-not-is_update : goal.returns-then-not-is_update
 returns-then-not-is_update c =
     let flags : Bool = c.is_digits-2.result && c.is_digits-3.result
-    && (c.is_digits.result && leb (length c.args.rates.now) c.most_rates-most.result) in
+    && (c.is_digits.result && leb (length c.args.fields.rates.now) c.most_rates-most.result) in
     let form-tested : (t : Bool) → flags ≡ t
-    → let a = c.args in
+    → let a = c.args.fields in
     form_fits a.schedule.now a.start.now a.next.now a.rates.now ≡ t = λ t e. cc (c.is_digits-3.ensures, c.is_digits-2.ensures, c.is_digits.ensures, c.most_rates-most.ensures) in
-    let formed : let a = c.args in
+    let formed : let a = c.args.fields in
     form_fits a.schedule.now a.start.now a.next.now a.rates.now ≡ true = form-tested true (not-false flags c.if-not-is_digits-few.false-raw) in
     update-date _ _ _ _ formed (sym c.is_update.ensures ∙ not-true _ c.if-not-is_update.true-raw)
 
 pub returns-then-not-all_at_most : goal.returns-then-not-all_at_most
 returns-then-not-all_at_most c =
     let flags : Bool = c.is_digits-2.result && c.is_digits-3.result
-    && (c.is_digits.result && leb (length c.args.rates.now) c.most_rates-most.result) in
+    && (c.is_digits.result && leb (length c.args.fields.rates.now) c.most_rates-most.result) in
     let form-tested : (t : Bool) → flags ≡ t
-    → let a = c.args in
+    → let a = c.args.fields in
     form_fits a.schedule.now a.start.now a.next.now a.rates.now ≡ t = λ t e. cc (c.is_digits-3.ensures, c.is_digits-2.ensures, c.is_digits.ensures, c.most_rates-most.ensures) in
-    let formed : let a = c.args in
+    let formed : let a = c.args.fields in
     form_fits a.schedule.now a.start.now a.next.now a.rates.now ≡ true = form-tested true (not-false flags c.if-not-is_digits-few.false-raw) in
-    let dated : let a = c.args in
+    let dated : let a = c.args.fields in
     update_holds a.start.now (length a.rates.now) a.next.now ≡ true = sym c.is_update.ensures ∙ not-false _ c.if-not-is_update.false-raw in
     update-rate _ _ _ _ formed dated
     (sym c.all_at_most.ensures ∙ not-true _ c.if-not-all_at_most.true-raw)
@@ -58,13 +58,13 @@ returns-then-not-all_at_most c =
 pub returns : goal.returns
 returns c =
     let flags : Bool = c.is_digits-2.result && c.is_digits-3.result
-    && (c.is_digits.result && leb (length c.args.rates.now) c.most_rates-most.result) in
+    && (c.is_digits.result && leb (length c.args.fields.rates.now) c.most_rates-most.result) in
     let form-tested : (t : Bool) → flags ≡ t
-    → let a = c.args in
+    → let a = c.args.fields in
     form_fits a.schedule.now a.start.now a.next.now a.rates.now ≡ t = λ t e. cc (c.is_digits-3.ensures, c.is_digits-2.ensures, c.is_digits.ensures, c.most_rates-most.ensures) in
-    let formed : let a = c.args in
+    let formed : let a = c.args.fields in
     form_fits a.schedule.now a.start.now a.next.now a.rates.now ≡ true = form-tested true (not-false flags c.if-not-is_digits-few.false-raw) in
-    let dated : let a = c.args in
+    let dated : let a = c.args.fields in
     update_holds a.start.now (length a.rates.now) a.next.now ≡ true = sym c.is_update.ensures ∙ not-false _ c.if-not-is_update.false-raw in
     update-plan _ _ _ _ formed dated
     (sym c.all_at_most.ensures ∙ not-false _ c.if-not-all_at_most.false-raw)

@@ -1,72 +1,43 @@
 use Prim.Native.Nat.{◌<◌, ◌*◌, ◌/◌}
 use mathlib.Core.Path.{◌≡◌, ◌∙◌, refl, sym}
 use native.Mathlib.Omega.{arith}
-use lib.ListN.{length, get_or, length-set}
+use lib.ListN.{length, get_or}
 use Rattle.rules.specs.Turned.{rearranged}
 use Rattle.turned.proofs.Places.{place-first, place-below, place-step, length-rearranged, rearranged-at, put_next, put_all}
 use Rattle.turned.proofs.rearrange.Goals as goal
 
-pub loop-i-init : goal.loop-i-init
-loop-i-init c =
+pub loop-x-init : goal.loop-x-init
+loop-x-init c =
     let a = c.args in
-    (omega arith, c.requires.fits, place-first (length a.from.now / a.row) a.row, refl)
+    record { from_here = place-first (length a.from.now / a.row) a.row; so_far = refl }
 
 pub bounds-from-place : goal.bounds-from-place
 bounds-from-place c =
-    let in_reach : c.loop-i.place < length c.args.from.now = let a = c.args in
-    let l = c.loop-i in
-    let rows = length a.from.now / a.row in
+    let rows = length c.args.from.now / c.args.row in
     let whole = c.requires.whole in
-    let h : l.i < rows * a.row = omega (arith, c.loop-i-test.true) in
-    omega (arith, place-below rows a.row l.i h, l.invariant.2) in
-    in_reach
+    let h : c.loop-x.x-index < rows * c.args.row = omega arith in
+    omega (arith, place-below rows c.args.row c.loop-x.x-index h, c.loop-x.invariant.from_here)
 
-pub bounds-to-i : goal.bounds-to-i
-bounds-to-i c = omega arith
-
-pub step-place-requires : goal.step-place-requires
-step-place-requires c =
-    let in_reach : c.loop-i.place < length c.args.from.now = let a = c.args in
-    let l = c.loop-i in
-    let rows = length a.from.now / a.row in
+pub loop-x-preserved : goal.loop-x-preserved
+loop-x-preserved c =
+    let from = c.args.from.now in
+    let row = c.args.row in
+    let rows = length from / row in
+    let l = c.loop-x in
+    let all = rearranged rows row from in
     let whole = c.requires.whole in
-    let h : l.i < rows * a.row = omega (arith, c.loop-i-test.true) in
-    omega (arith, place-below rows a.row l.i h, l.invariant.2) in
-    let p = c.requires in
-    (in_reach, p.short, p.few)
-
-pub overflow_add-i : goal.overflow_add-i
-overflow_add-i c = omega arith
-
-pub loop-i-smaller : goal.loop-i-smaller
-loop-i-smaller c = omega arith
-
-pub loop-i-preserved : goal.loop-i-preserved
-loop-i-preserved c =
-    let a = c.args in
-    let from = a.from.now in
-    let rows = length from / a.row in
-    let l = c.loop-i in
-    let whole = c.requires.whole in
-    let h : l.i < rows * a.row = omega (arith, c.loop-i-test.true) in
-    let long = length-rearranged rows a.row from in
-    let byte : get_or from l.place 0 ≡ get_or (rearranged rows a.row from) l.i 0 =
-    rw l.invariant.2 (sym (rearranged-at rows a.row from l.i h)) in (
-      omega arith,
-      simp length-set l.invariant.1,
-      c.step-place.ensures ∙ sym (place-step rows a.row l.i h ∙ rw (whole, ← l.invariant.2) refl),
-      put_next l.to (rearranged rows a.row from) l.i (get_or from l.place 0) (omega arith) (omega arith) byte l.invariant.3,
-    )
-
-pub shape_of-to : goal.shape_of-to
-shape_of-to c = c.loop-i.invariant.1 ∙ sym c.requires.fits
+    let h : l.x-index < rows * row = omega arith in
+    let long = length-rearranged rows row from in
+    let byte : get_or from l.place 0 ≡ get_or all l.x-index 0 =
+    rw l.invariant.from_here (sym (rearranged-at rows row from l.x-index h)) in
+    record {
+      from_here = c.step-place.ensures ∙ sym (place-step rows row l.x-index h ∙ rw (whole, ← l.invariant.from_here) refl);
+      so_far = put_next l.to all l.x-index (get_or from l.place 0) (omega arith) (omega arith) byte l.invariant.so_far;
+    }
 
 pub returns : goal.returns
 returns c =
-    let a = c.args in
-    let from = a.from.now in
-    let rows = length from / a.row in
-    let l = c.loop-i in
-    let whole = c.requires.whole in
-    let long = length-rearranged rows a.row from in
-    put_all l.to (rearranged rows a.row from) l.i (omega arith) (omega arith) l.invariant.3
+    let from = c.args.from.now in
+    let rows = length from / c.args.row in
+    let long = length-rearranged rows c.args.row from in
+    put_all c.loop-x.to (rearranged rows c.args.row from) c.loop-x.x-index (omega arith) (omega arith) c.loop-x.invariant.so_far

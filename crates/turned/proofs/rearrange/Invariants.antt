@@ -1,15 +1,12 @@
--- `turned::rearrange` meets its contract. The loop's invariant: below i the bytes are the rearranged ones, and `place` is where the next comes from.
-use Prim.Native.Nat.{◌≤◌, ◌-◌, ◌/◌}
+-- `turned::rearrange` meets its contract. The loop's invariant: the bytes so far are the rearranged ones, and `place` is where the next comes from.
+use Prim.Native.Nat.{◌/◌}
 use mathlib.Core.Path.{◌≡◌}
 use lib.ListN.{length, take}
 use Rattle.rules.specs.Turned.{source_of, rearranged}
 use Rattle.turned.proofs.rearrange.Given as goal
 
-abbrev pub invariant-loop-i : goal.invariant-loop-i
-invariant-loop-i l = (l.i ≤ length l.from)
-    × (length l.to ≡ length l.from)
-    × (l.place ≡ source_of (length l.from / l.row) l.row l.i)
-    × (take l.i l.to ≡ take l.i (rearranged (length l.from / l.row) l.row l.from))
-
-abbrev pub decreases-loop-i : goal.decreases-loop-i
-decreases-loop-i l = length l.from - l.i
+abbrev pub invariant-loop-x : goal.invariant-loop-x
+invariant-loop-x l = record {
+  from_here : l.place ≡ source_of (length l.from / l.row) l.row l.x-index;
+  so_far : take l.x-index l.to ≡ take l.x-index (rearranged (length l.from / l.row) l.row l.from);
+}

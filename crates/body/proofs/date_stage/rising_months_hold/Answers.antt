@@ -19,11 +19,11 @@ returns-in_default c = months-none c.args.format c.args.s.now c.requires (sym c.
 
 pub months_hold-requires : goal.months_hold-requires
 months_hold-requires c =
-    let begun : Begins (part c.args.s.now 36 12) c.in-Month.first = begun-facts _ _ (sym c.in-Month.is ∙ c.month_begun.ensures) in
+    let begun : Begins (part c.args.s.now 36 12) c.in-Some.first = begun-facts _ _ (sym c.in-Some.is ∙ c.month_begun.ensures) in
     (c.requires, omega (arith, begun.few))
 
 pub returns : goal.returns
 returns c =
-    let begun : Begins (part c.args.s.now 36 12) c.in-Month.first = begun-facts _ _ (sym c.in-Month.is ∙ c.month_begun.ensures) in
+    let begun : Begins (part c.args.s.now 36 12) c.in-Some.first = begun-facts _ _ (sym c.in-Some.is ∙ c.month_begun.ensures) in
     let a = c.args in
     c.months_hold.ensures ∙ ap (λ (m : ℕ). months_from m (records_from a.format (count_of a.format) a.s.now)) begun.month

@@ -5,19 +5,19 @@ use mathlib.Core.Path.{◌≡◌, sym, ap, ap₂, ◌∙◌}
 use mathlib.Core.Bool.{Bool, true, ◌&&◌}
 use native.Mathlib.Omega.{arith}
 use borrow.Author.Tests.{not-true, not-false}
-use Rattle.calendar.specs.Moments.{moment_of, month_exists, day_exists, time_exists}
+use Rattle.calendar.specs.Moments.{month_exists, day_exists, time_exists}
 use Rattle.calendar.proofs.DateLaws.{MonthRead, TimeRead, month-facts, dated, moment-short, no-digits, no-month, no_day, is-date}
 use Rattle.calendar.proofs.dates.read_moment.Goals as goal
 
 pub returns-then-digits-ne-MOMENT_DIGITS : goal.returns-then-digits-ne-MOMENT_DIGITS
 returns-then-digits-ne-MOMENT_DIGITS c =
     let text : List ℕ = c.args.digits.now in
-    sym (ap moment_of (moment-short text c.if-digits-ne-MOMENT_DIGITS.true))
+    sym (moment-short text c.if-digits-ne-MOMENT_DIGITS.true)
 
 pub returns-then-not-few_at_most : goal.returns-then-not-few_at_most
 returns-then-not-few_at_most c =
     let text : List ℕ = c.args.digits.now in
-    sym (ap moment_of (no-digits text c.if-digits-ne-MOMENT_DIGITS.false (sym c.few_at_most.ensures ∙ not-true _ c.if-not-few_at_most.true-raw)))
+    sym (no-digits text c.if-digits-ne-MOMENT_DIGITS.false (sym c.few_at_most.ensures ∙ not-true _ c.if-not-few_at_most.true-raw))
 
 pub returns-then-not-is_month : goal.returns-then-not-is_month
 returns-then-not-is_month c =
@@ -28,7 +28,7 @@ returns-then-not-is_month c =
       low = c.pair-2.ensures.exact;
       month = c.pair-month.ensures.exact;
     } in
-    sym (ap moment_of (no-month month-read (sym c.is_month.ensures ∙ not-true _ c.if-not-is_month.true-raw)))
+    sym (no-month month-read (sym c.is_month.ensures ∙ not-true _ c.if-not-is_month.true-raw))
 
 pub overflow_sub-number : goal.overflow_sub-number
 overflow_sub-number c =
@@ -68,7 +68,7 @@ returns-then-not-is_day-is_time c =
       second = c.pair-second.ensures.exact;
     } in
     let fails = day-test ∙ not-true _ c.if-not-is_day-is_time.true-raw in
-    sym (ap moment_of (no_day month-read time-read fails))
+    sym (no_day month-read time-read fails)
 
 pub second_at-requires : goal.second_at-requires
 second_at-requires c =
@@ -103,5 +103,4 @@ returns c =
     let all = sym c.few_at_most.ensures ∙ not-false _ c.if-not-few_at_most.false-raw in
     let day-there = day-test ∙ not-false _ c.if-not-is_day-is_time.false-raw in
     sym
-    (ap moment_of
-    (is-date month-read time-read all month-there day-there c.second_at.ensures))
+    ((is-date month-read time-read all month-there day-there c.second_at.ensures))

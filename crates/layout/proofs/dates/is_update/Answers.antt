@@ -10,4 +10,4 @@ pub returns-in_default-read_moment : goal.returns-in_default-read_moment
 returns-in_default-read_moment c = update-no-next _ _ _ (sym c.in_default-read_moment.is ∙ c.read_moment.ensures)
 
 pub returns : goal.returns
-returns c = update-is _ _ _ _ _ (sym c.in-At.is ∙ c.start_slot.ensures) (sym c.in-At-read_moment.is ∙ c.read_moment.ensures)
+returns c = update-is _ _ _ _ _ (sym c.in-Some.is ∙ c.start_slot.ensures) (sym c.in-Some-read_moment.is ∙ c.read_moment.ensures)

@@ -7,4 +7,4 @@ pub returns-in_default : goal.returns-in_default
 returns-in_default c = no-month _ _ _ (sym c.in_default.is ∙ c.month_begun.ensures)
 
 pub returns : goal.returns
-returns c = is-month _ _ _ _ _ (sym c.in-Month.is ∙ c.month_begun.ensures) c.days_of_month.ensures
+returns c = is-month _ _ _ _ _ (sym c.in-Some.is ∙ c.month_begun.ensures) c.days_of_month.ensures

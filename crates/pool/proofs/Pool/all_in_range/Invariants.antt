@@ -1,12 +1,7 @@
 use mathlib.Core.Path.{◌≡◌}
-use Prim.Native.Nat.{◌≤◌, ◌-◌}
-use Rattle.rules.specs.Store.{block_count}
 use Rattle.pool.specs.Below.{all_below}
 use Rattle.pool.specs.Blocks.{in_range}
 use Rattle.pool.proofs.Pool.all_in_range.Given as goal
 
 abbrev pub invariant-loop-b : goal.invariant-loop-b
-invariant-loop-b l = (l.b ≤ block_count) × (l.good ≡ all_below l.b (in_range l.self l.floor))
-
-abbrev pub decreases-loop-b : goal.decreases-loop-b
-decreases-loop-b l = block_count - l.b
+invariant-loop-b l = l.good ≡ all_below l.b (in_range l.self l.floor)

@@ -1,6 +1,5 @@
 use mathlib.Core.Path.{◌≡◌, refl}
 use native.Mathlib.Omega.{arith}
-use borrow.Author.Rules.{rules}
 use Rattle.rules.specs.Store.{block_count}
 use Rattle.pool.specs.Below.{sum_below}
 use Rattle.pool.specs.Blocks.{release_of, free_after}
@@ -9,7 +8,7 @@ use Rattle.pool.proofs.Pool.release_below.Goals as goal
 
 pub loop-b-init : goal.loop-b-init
 unfolding sum_below
-loop-b-init c = (search rules, refl)
+loop-b-init c = refl
 
 pub overflow_add-free : goal.overflow_add-free
 overflow_add-free c =
@@ -21,7 +20,7 @@ pub loop-b-preserved : goal.loop-b-preserved
 loop-b-preserved c =
     let a = c.args in
     let step = number_step (free_after a.self a.floor) c.loop-b.b in
-    (search rules, rw (c.digit-free.ensures, c.free_after.ensures) (omega (arith, step)))
+    rw (c.digit-free.ensures, c.free_after.ensures) (omega (arith, step))
 
 pub returns : goal.returns
 unfolding release_of

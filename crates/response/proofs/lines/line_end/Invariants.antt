@@ -1,14 +1,11 @@
 -- `response::lines::line_end` meets its contract: no pair begins below i.
-use Prim.Native.Nat.{◌≤◌, ◌-◌}
+use Prim.Native.Nat.{◌-◌}
 use mathlib.Core.Path.{◌≡◌}
-use lib.ListN.{length, drop}
+use lib.ListN.{drop}
 use Rattle.rules.specs.Digits.{part}
 use Rattle.rules.specs.Response.{line_of}
 use Rattle.response.proofs.Scans.{after_bytes}
 use Rattle.response.proofs.lines.line_end.Given as goal
 
 abbrev pub invariant-loop-i : goal.invariant-loop-i
-invariant-loop-i l = (l.at ≤ l.i) × (l.i ≤ length l.s) × (line_of (drop l.at l.s) ≡ after_bytes (part l.s l.at (l.i - l.at)) (line_of (drop l.i l.s)))
-
-abbrev pub decreases-loop-i : goal.decreases-loop-i
-decreases-loop-i l = length l.s - l.i
+invariant-loop-i l = line_of (drop l.at l.s) ≡ after_bytes (part l.s l.at (l.i - l.at)) (line_of (drop l.i l.s))

@@ -12,11 +12,11 @@ pub returns-then-count-eq0 : goal.returns-then-count-eq0
 returns-then-count-eq0 c = sym (end_none c.args.slot c.args.count c.if-count-eq0.true)
 
 pub overflow_add-result : goal.overflow_add-result
-overflow_add-result c = omega (arith, c.month_of_slot.ensures, slot-month-most (c.lesser-end.result - 1))
+overflow_add-result c = omega (arith, c.month_of_slot.ensures, slot-month-most (c.min-end.result - 1))
 
 pub returns : goal.returns
 returns c =
     let a = c.args in
     add-one c.month_of_slot.result
-    ∙ ap suc (c.month_of_slot.ensures ∙ ap (λ e. month_of_slot (e - 1)) c.lesser-end.ensures)
+    ∙ ap suc (c.month_of_slot.ensures ∙ ap (λ e. month_of_slot (e - 1)) c.min-end.ensures)
     ∙ sym (end-some a.slot a.count c.if-count-eq0.false)

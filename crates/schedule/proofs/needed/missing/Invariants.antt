@@ -1,12 +1,8 @@
 -- `needed::missing` meets its contract. The loop's invariant: the months below this one that need a block are counted.
-use Prim.Native.Nat.{◌≤◌, ◌-◌}
 use mathlib.Core.Path.{◌≡◌}
 use Rattle.rules.specs.Machine.{count_below}
 use Rattle.schedule.proofs.MissingLaws.{needs-block}
 use Rattle.schedule.proofs.needed.missing.Given as goal
 
 abbrev pub invariant-loop-month : goal.invariant-loop-month
-invariant-loop-month l = (l.initial.month ≤ l.month) × (l.month ≤ l.end) × (l.needed ≡ count_below l.month (needs-block l.pool l.floor l.slot l.count))
-
-abbrev pub decreases-loop-month : goal.decreases-loop-month
-decreases-loop-month l = l.end - l.month
+invariant-loop-month l = l.needed ≡ count_below l.month (needs-block l.pool l.floor l.slot l.count)

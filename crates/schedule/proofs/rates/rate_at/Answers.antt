@@ -1,4 +1,5 @@
 -- `rates::rate_at` meets its contract.
+use Rattle.std.specs.Prelude.{Some}
 use Prim.Native.Nat.{ℕ, ◌≤◌, ◌<◌, ◌-◌}
 use mathlib.Core.Path.{◌≡◌, sym, ap, subst, ◌∙◌}
 use native.Mathlib.Omega.{arith}
@@ -6,9 +7,7 @@ use lib.ListN.{get_or}
 use Rattle.rules.specs.Calendar.{first_slot, month_of_slot}
 use Rattle.rules.specs.Store.{no_rate, from_byte, block_count}
 use Rattle.pool.specs.Blocks.{find_of}
-use Rattle.pool.specs.declared.Found.TheVariants.{At}
 use Rattle.schedule.specs.Stored.{place}
-use Rattle.schedule.specs.Rates.{rate_option}
 use Rattle.schedule.proofs.RateLaws.{slot-from, find-below, rate-found, rate-nothing}
 use Rattle.schedule.proofs.rates.rate_at.Goals as goal
 
@@ -21,31 +20,32 @@ overflow_sub-i c =
 
 pub overflow_mul-b : goal.overflow_mul-b
 overflow_mul-b c =
-    let at : find_of c.args.pool c.month_of_slot-month.result ≡ At c.in-At.b = sym c.find.ensures ∙ c.in-At.is in
-    let below : c.in-At.b < block_count = find-below _ _ _ at in
+    let at : find_of c.args.pool c.month_of_slot-month.result ≡ Some c.in_ok-b.b = sym c.find.ensures ∙ c.in_ok-b.was in
+    let below : c.in_ok-b.b < block_count = find-below _ _ _ at in
     omega (arith, below)
 
 pub overflow_add-b : goal.overflow_add-b
 overflow_add-b c =
-    let at : find_of c.args.pool c.month_of_slot-month.result ≡ At c.in-At.b = sym c.find.ensures ∙ c.in-At.is in
-    let below : c.in-At.b < block_count = find-below _ _ _ at in
+    let at : find_of c.args.pool c.month_of_slot-month.result ≡ Some c.in_ok-b.b = sym c.find.ensures ∙ c.in_ok-b.was in
+    let below : c.in_ok-b.b < block_count = find-below _ _ _ at in
     omega (arith, below, c.ranges.slot)
 
-pub returns-in-At : goal.returns-in-At
-returns-in-At c =
-    let at : find_of c.args.pool c.month_of_slot-month.result ≡ At c.in-At.b = sym c.find.ensures ∙ c.in-At.is in
+pub returns-in_err-b : goal.returns-in_err-b
+returns-in_err-b c =
+    let a = c.args in
+    let m = c.month_of_slot-month.ensures in
+    c.from_residual.ensures
+    ∙ rate-nothing a.pool a.store.now a.slot (sym (ap (find_of a.pool) m) ∙ sym c.find.ensures ∙ c.in_err-b.was)
+
+pub returns : goal.returns
+returns c =
+    let at : find_of c.args.pool c.month_of_slot-month.result ≡ Some c.in_ok-b.b = sym c.find.ensures ∙ c.in_ok-b.was in
     let a = c.args in
     let store = a.store.now in
     let m = c.month_of_slot-month.ensures in
     let f = c.first_slot.ensures in
-    let b = c.in-At.b in
+    let b = c.in_ok-b.b in
     c.rate_of.ensures
-    ∙ ap (λ (x : ℕ). rate_option (from_byte x)) c.byte_at.ensures
-    ∙ ap (λ (x : ℕ). rate_option (from_byte (get_or store (place b (a.slot - x)) no_rate))) (f ∙ ap first_slot m)
-    ∙ ap rate_option (sym (rate-found a.pool store a.slot b (sym (ap (find_of a.pool) m) ∙ at)))
-
-pub returns-in-Nothing : goal.returns-in-Nothing
-returns-in-Nothing c =
-    let a = c.args in
-    let m = c.month_of_slot-month.ensures in
-    rate-nothing a.pool a.store.now a.slot (sym (ap (find_of a.pool) m) ∙ sym c.find.ensures ∙ c.in-Nothing.is)
+    ∙ ap (λ (x : ℕ). from_byte x) c.byte_at.ensures
+    ∙ ap (λ (x : ℕ). (from_byte (get_or store (place b (a.slot - x)) no_rate))) (f ∙ ap first_slot m)
+    ∙ (sym (rate-found a.pool store a.slot b (sym (ap (find_of a.pool) m) ∙ at)))

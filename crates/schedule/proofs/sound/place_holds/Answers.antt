@@ -1,9 +1,8 @@
 -- `sound::place_holds` meets its contract.
 use Prim.Native.Nat.{◌*◌}
-use mathlib.Core.Path.{ap, ◌∙◌}
+use mathlib.Core.Path.{sym, ap, ◌∙◌}
 use native.Mathlib.Omega.{arith}
 use lib.ListN.{length}
-use borrow.Author.Tests.{eq-eqb, ne_eqb}
 use Rattle.rules.specs.Store.{sound_block, block_length}
 use Rattle.laws.proofs.Bytes.{part_length}
 use Rattle.digits.proofs.Parts.{part-to}
@@ -11,10 +10,10 @@ use Rattle.pool.specs.Blocks.{month_of}
 use Rattle.schedule.proofs.StoreLaws.{place-free, place-used}
 use Rattle.schedule.proofs.sound.place_holds.Goals as goal
 
-pub returns-then-pool-b-eq1 : goal.returns-then-pool-b-eq1
-returns-then-pool-b-eq1 c =
+pub returns-then-is_free : goal.returns-then-is_free
+returns-then-is_free c =
     let a = c.args in
-    place-free a.pool a.store.now a.b (eq-eqb _ _ c.if-pool-b-eq1.true)
+    place-free a.pool a.store.now a.b (sym c.is_free.ensures ∙ c.if-is_free.true)
 
 pub block_holds-requires : goal.block_holds-requires
 block_holds-requires c =
@@ -26,4 +25,4 @@ returns c =
     let a = c.args in
     c.block_holds.ensures
     ∙ ap (sound_block (month_of a.pool a.b)) (part-to a.store.now (a.b * block_length) block_length)
-    ∙ place-used a.pool a.store.now a.b (ne_eqb _ _ c.if-pool-b-eq1.false)
+    ∙ place-used a.pool a.store.now a.b (sym c.is_free.ensures ∙ c.if-is_free.false)

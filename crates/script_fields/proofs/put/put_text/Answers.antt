@@ -1,6 +1,8 @@
 -- `script_fields::put::put_text` meets its contract: a return for each test of the room, and the text put.
 use mathlib.Core.Path.{refl}
 use native.Mathlib.Omega.{arith}
+use lib.ListN.{length}
+use Rattle.std.proofs.lemmas.Slice.{put_mid-paste}
 use Rattle.script_fields.proofs.PutLaws.{no_room, has_room}
 use Rattle.script_fields.proofs.put.put_text.Goals as goal
 
@@ -19,5 +21,7 @@ returns-then-out-at-2 c =
 pub returns : goal.returns
 returns c =
     let a = c.args in
-    let both = has_room a.out.now a.at a.text.now refl c.copy.ensures (omega arith) in
+    let s = a.text.now in
+    let same = c.copy_from_slice.ensures.after in
+    let both = has_room a.out.now a.at s refl (put_mid-paste a.at _ a.out.now _ s (length s) same (omega arith) refl) (omega arith) in
     record { place = both.0; buffer = both.1 }

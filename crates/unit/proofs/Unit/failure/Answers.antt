@@ -18,10 +18,10 @@ pub returns-then-not-is_status : goal.returns-then-not-is_status
 returns-then-not-is_status c =
     let good : is_sound c.args.self ≡ true = sym c.sound.ensures ∙ not-false _ c.if-not-sound.false-raw in
     let status = sym c.is_status.ensures ∙ not-true _ c.if-not-is_status.true-raw in
-    c.refuse-then-not-is_status.ensures ∙ sym (failure-status _ good _ c.in-At.is _ _ status)
+    c.refuse-then-not-is_status.ensures ∙ sym (failure-status _ good _ c.in-Some.is _ _ status)
 
 pub returns : goal.returns
 returns c =
     let good : is_sound c.args.self ≡ true = sym c.sound.ensures ∙ not-false _ c.if-not-sound.false-raw in
     let status = sym c.is_status.ensures ∙ not-false _ c.if-not-is_status.false-raw in
-    sym (failure-done _ good _ c.in-At.is _ _ status _ c.check_digit.ensures _ c.failed-requests.ensures)
+    sym (failure-done _ good _ c.in-Some.is _ _ status _ c.check_digit.ensures _ c.failed-requests.ensures)

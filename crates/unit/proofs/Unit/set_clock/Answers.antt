@@ -4,4 +4,4 @@ use Rattle.unit.proofs.Unit.set_clock.Goals as goal
 
 pub returns : goal.returns
 unfolding set_clock with_command
-returns c = rw (c.release_below-pool.ensures, c.raised_floor-floor.ensures)
+returns c = rw (c.release_below.ensures, c.raised_floor-floor.ensures)

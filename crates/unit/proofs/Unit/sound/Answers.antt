@@ -5,5 +5,5 @@ use Rattle.unit.proofs.Unit.sound.Goals as goal
 
 pub returns : goal.returns
 returns c =
-    rw (c.valid.ensures, c.sound.ensures, c.sound-2.ensures, c.sound-3.ensures)
+    rw (c.valid.ensures, c.sound.ensures, c.sound-2.ensures, c.sound_clock.ensures)
     (sym (sound-is c.args.self))

@@ -1,11 +1,11 @@
 -- `unit::Unit::tick` meets its contract.
+use Rattle.std.specs.Prelude.{Ok}
 use mathlib.Core.Path.{◌≡◌, sym, ap, ap₂, ◌∙◌}
 use mathlib.Core.Bool.{true, ◌&&◌}
 use native.Mathlib.Omega.{arith}
 use lib.ListN.{length}
 use borrow.Author.Tests.{not-true, not-false}
 use Rattle.rules.specs.Store.{store_length}
-use Rattle.rules.specs.declared.Answer.{Answer}
 use Rattle.schedule.specs.Stored.{store_holds}
 use Rattle.unit.specs.Values.{is_sound}
 use Rattle.unit.specs.declared.Unit.{Unit}
@@ -38,5 +38,5 @@ returns c =
     (c.sound.result && c.store_holds.result) ≡ (is_sound a.self && store_holds a.self.pool a.store.now) = ap₂ ◌&&◌ c.sound.ensures c.store_holds.ensures in
     let good : let a = c.args in (is_sound a.self && store_holds a.self.pool a.store.now) ≡ true = sym tested ∙ not-false _ c.if-not-sound-store_holds.false-raw in
     let a = c.args in
-    ap (λ (v : Unit). record { unit = v; answer = Answer.Accepted }) (c.set_clock.ensures ∙ ap (jumped a.self a.t) c.command_at-command.ensures)
+    ap (λ (v : Unit). record { unit = v; answer = Ok tt }) (c.set_clock.ensures ∙ ap (jumped a.self a.t) c.command_at-command.ensures)
     ∙ sym (tick-done _ _ _ long good (omega (arith, c.if-t.false)))

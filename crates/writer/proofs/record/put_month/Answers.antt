@@ -5,5 +5,6 @@ use Rattle.writer.proofs.record.put_month.Goals as goal
 pub returns : goal.returns
 returns c =
     let a = c.args in
-    month-placed a.out.now a.schedule.now a.plant.now c.month_start-start.result a.rates.now a.at a.month c.requires
-    c.month_start-start.ensures c.checksum-sum.ensures c.put_head.ensures c.put_number.ensures
+    let w = a.fields in
+    month-placed a.out.now w.schedule.now w.plant.now c.month_start-digits.result w.rates.now a.at a.month c.requires
+    c.month_start-digits.ensures c.checksum-sum.ensures c.put_head.ensures c.put_number.ensures

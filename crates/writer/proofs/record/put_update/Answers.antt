@@ -2,6 +2,7 @@
 use mathlib.Core.Path.{◌∙◌}
 use native.Mathlib.Omega.{arith}
 use lib.ListN.{length-set}
+use Rattle.plan.specs.Fields.{given}
 use Rattle.writer.proofs.Records.{update-placed}
 use Rattle.writer.proofs.record.put_update.Goals as goal
 
@@ -14,5 +15,5 @@ shape_of-out c = c.put.auto.out ∙ c.put_number.auto.out ∙ simp length-set c.
 pub returns : goal.returns
 returns c =
     let a = c.args in
-    update-placed a.out.now a.schedule.now a.plant.now a.start.now a.next.now a.rates.now a.at a.flag c.requires
+    update-placed a.out.now a.at (given a.fields) c.requires
     c.checksum-sum.ensures c.put_head.ensures c.put_number.ensures c.put.ensures

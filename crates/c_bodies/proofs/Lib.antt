@@ -1,1 +1,0 @@
-pub mod Apart  -- a body taken apart by the number of its format

@@ -1,6 +1,0 @@
--- `script::ask::status_ask` meets its contract.
-use mathlib.Core.Path.{refl}
-use Rattle.script.proofs.ask.status_ask.Goals as goal
-
-pub returns-in-Value : goal.returns-in-Value
-returns-in-Value c = rw c.in-Value.is refl
