@@ -1,7 +1,6 @@
 use mathlib.Core.Path.{◌∙◌, sym}
 use native.Mathlib.Omega.{arith}
 use lib.ListN.{length-drop}
-use lib.Seq.{length-take-le}
 use Rattle.std.proofs.lemmas.List.{length-take}
 use Rattle.script_words.proofs.WordLaws.{after-part, word_more, word-ends}
 use Rattle.script_words.proofs.words.word.Goals as goal
@@ -11,9 +10,6 @@ loop-preserved c =
     let l = c.loop in
     let after = after-part l.t.now _ _ c.place.ensures.exact c.min-start.ensures in
     (simp (length-take, length-drop) (omega arith), l.invariant.1 ∙ word_more _ l.counter l.t.now _ c.loop-test.true after)
-
-pub slice_bounds-result-end : goal.slice_bounds-result-end
-slice_bounds-result-end c = sym (length-take-le _ _ c.place-end.ensures.bound)
 
 pub returns : goal.returns
 returns c =
