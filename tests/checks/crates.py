@@ -3,7 +3,7 @@ import glob
 import os
 import re
 
-HEAD = re.compile(r"(?:(?:abbrev|unfoldable|pub|record|data) )*([^\s(]+)")
+HEAD = re.compile(r"(?:(?:abbrev|unfoldable|pub|record|data|ruleset) )*([^\s(]+)")
 CONTINUES = ("}", ")", "unfolding ")
 
 

@@ -6,6 +6,8 @@ import crates
 
 WORD = re.compile(r"[^\s(){}\[\];,.λ@«»]+")
 USE = re.compile(r"^(?:pub )?(?:ghost )?use (Rattle\.[^\s{;]+?)(?:\.\{([^}]*)\}| as (\S+?))?;?$", re.M)
+TACTIC = re.compile(r"^\s*#!?\[tactic\((.*)\)\]$", re.M)
+PATH = re.compile(r"\w+(?:::\w+)+")
 MODULE = re.compile(r"Rattle\.(\w+)\.(specs|proofs)\.(\S+)")
 
 
@@ -38,6 +40,12 @@ def taken(path):
             names[own] = names[own.strip("_◌")] = (home, name)  # an operator `◌is◌` is used as `is`
         if not listed and not alias:
             aliases[module.split(".")[-1]] = home
+    for attribute in TACTIC.findall(text):  # `using(crate::proofs::Scan::next)` in a source
+        for cited in PATH.findall(attribute):
+            first, *between, name = cited.split("::")
+            home = file_of(".".join(["Rattle", path.split("/")[1] if first == "crate" else first, *between]))
+            if home:
+                names[name] = (home, name)
     return names, aliases
 
 

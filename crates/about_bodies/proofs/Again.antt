@@ -5,27 +5,29 @@ use mathlib.Core.Path.{◌≡◌, ◌∙◌, refl, sym, ap, subst}
 use mathlib.Core.Bool.{true}
 use mathlib.Core.List.{List, [], ◌∷◌}
 use native.Mathlib.Omega.{arith}
-use lib.ListN.{length}
+use lib.ListN.{length, get_or}
 use Rattle.rules.specs.Digits.{same_bytes}
 use Rattle.rules.specs.Name.{format_number}
-use Rattle.rules.specs.Body.{Record, schedule, count_of, parse_body, every, is_schedule}
+use Rattle.rules.specs.Body.{Record, schedule, count_of, flag_digits, parse_body, form_of_record, every, is_schedule}
 use Rattle.rules.specs.File.{File, file, read_file, records_in, flag_of}
 use Rattle.rules.specs.Lister.{record_count, rate_count}
 use Rattle.rules.specs.Writer.{Fields, bytes, written_of, write_body}
 use Rattle.rules.specs.declared.Format.{Format}
-use Rattle.rules.specs.Reading.{summary_of}
+use Rattle.rules.specs.declared.Format.TheVariants.{F201, F202, F203, F301}
+use Rattle.rules.specs.Reading.{update_of, summary_of}
 use Rattle.rules.specs.declared.Summary.{Summary}
-use Rattle.laws.proofs.Tests.{join}
+use Rattle.laws.proofs.Tests.{both, join}
 use Rattle.laws.proofs.Bytes.{equal-same}
 use Rattle.about_files.specs.Writing.{end_to_end, shared_schedule, fields_of as fields_in}
-use Rattle.about_files.proofs.Rewritten.{read-written, read-written-with-plant}
+use Rattle.about_files.proofs.Record.{form-facts}
+use Rattle.about_files.proofs.Rewritten.{none_left, read-written, read-written-with-plant}
 use Rattle.about_files.proofs.Accepted.{Taken, schedule-read, accepted, file-read}
 use Rattle.plan.specs.Fields.{fields_of}
 use Rattle.records.specs.Reading.{field_in, record_in, rates_output}
 use Rattle.records.specs.declared.Field.TheVariants.{Schedule, Plant, Start, Next}
 use Rattle.records.proofs.Joined.{joined_length}
 use Rattle.about_bodies.specs.Written.{Holds}
-use Rattle.about_bodies.specs.Again.{an_id, copied, fields_again, Shared, BodyAgain}
+use Rattle.about_bodies.specs.Again.{an_id, copied, flag_again, fields_again, Shared, BodyAgain}
 use Rattle.about_bodies.proofs.Written.{holds-bytes, first-bytes, rates-output}
 
 -- ---- the records share a schedule ID
@@ -48,6 +50,18 @@ same-fields : (f : Format) (rs : List Record)
     ≡ fields_in f rs
 same-fields f [] = refl
 same-fields f (r ∷ rs) = refl
+
+-- no format but 203 has a flag
+no-flag : (f : Format) (rs : List Record) → flag_digits f ≡ 0 → every (form_of_record f) rs ≡ true → 0 ≡ flag_of rs
+unfolding every
+no-flag f [] e h = refl
+no-flag f (r ∷ rs) e h = ap (λ (s : List ℕ). get_or s 0 0) (none_left r.flag ((form-facts f r (both _ _ h).0).flag.long ∙ e))
+
+flag-again : (f : Format) (rs : List Record) → every (form_of_record f) rs ≡ true → flag_again (update_of f rs) ≡ flag_of rs
+flag-again F201 rs h = no-flag F201 rs refl h
+flag-again F202 rs h = no-flag F202 rs refl h
+flag-again F203 rs h = refl
+flag-again F301 rs h = no-flag F301 rs refl h
 
 -- ---- the body
 
@@ -97,9 +111,9 @@ module _ (plant : Option (List ℕ)) (name body space out : List ℕ) (f : File)
     unfolding summary_of
     rates-is = ap (λ (y : Summary). y.rates) x≡ ∙ rates-count
 
-    flag_is : x.flag ≡ flag_of rs
+    flag_is : flag_again x.update ≡ flag_of rs
     unfolding summary_of
-    flag_is = ap (λ (y : Summary). y.flag) x≡
+    flag_is = ap (λ (y : Summary). flag_again y.update) x≡ ∙ flag-again fmt rs the-file.records.form
 
     rates-held : Holds (rates_output fmt body (length space)) space (end_to_end rs)
     rates-held = holds-bytes space (end_to_end rs) (rates-output fmt body rs space i parses (let r = rates-is in omega arith))

@@ -20,7 +20,7 @@ use Rattle.records.specs.declared.Field.{Field}
 use Rattle.records.specs.declared.Field.TheVariants.{Schedule, Plant, Start, Rates, Flag, Checksum, Next}
 use Rattle.records.proofs.Bodies.{stands_facts}
 use Rattle.records.proofs.Finding.{FoundAt, found-facts, record-found, record-missing, part-is}
-use Rattle.about_bodies.specs.Records.{SameRecords, FieldsAt, PlacesFound, PlacesHold}
+use Rattle.about_bodies.specs.Records.{SameRecords, StandsAt, FieldsAt, PlacesFound, PlacesHold}
 
 pub same-records : SameRecords
 unfolding record_in
@@ -52,15 +52,17 @@ module _ (f : Format) (body : List ℕ) (i : ℕ) (p : Places) (a : FoundAt f bo
       ap (λ (q : Places). q.count) a.places
       ∙ sym (rates-full f (drop at body) (record-whole f body (stands_facts f body a.stands).records i a.inside))
 
-  flag_is : f ≡ F203 → part body p.flag 1 ≡ r.flag
+  flag_is : f ≡ F203 → StandsAt body p.flag 1 r.flag
   flag_is k =
       let e : size Flag f p ≡ 1 = rw k refl in
-      rw e at (is Flag)
+      let there : p.flag ≡ Some (from Flag p) = rw (a.places, k) refl in
+      (from Flag p, there, rw e at (is Flag))
 
-  next-is : f ≡ F203 → part body p.next 14 ≡ r.next
+  next-is : f ≡ F203 → StandsAt body p.next 14 r.next
   next-is k =
       let e : size Next f p ≡ 14 = rw k refl in
-      rw e at (is Next)
+      let there : p.next ≡ Some (from Next p) = rw (a.places, k) refl in
+      (from Next p, there, rw e at (is Next))
 
   fields_at : FieldsAt f body p r
   fields_at = record {

@@ -9,15 +9,15 @@ use Rattle.rules.specs.Calendar.{month_at}
 use Rattle.rules.specs.Name.{format_of}
 use Rattle.rules.specs.Writer.{write_body, digits_fit, months_fit, field_records, month_records}
 use Rattle.plan.specs.Fields.{fields_of}
-use Rattle.writer.proofs.Months.{same-months}
+use Rattle.writer.proofs.Months.{same_months}
 use Rattle.about_bodies.specs.Unread.{NotLookedAt}
 
 module _ (plant ident start next next' rates : List ℕ) (flag flag' room : ℕ) where
   same-records : (format k m : ℕ) → month_records (fields_of format plant ident start next rates flag) k m rates
       ≡ month_records (fields_of format plant ident start next' rates flag') k m rates
   same-records format k m =
-      same-months (fields_of format plant ident start next rates flag) k m rates
-      ∙ sym (same-months (fields_of format plant ident start next' rates flag') k m rates)
+      same_months (fields_of format plant ident start next rates flag) k m rates
+      ∙ sym (same_months (fields_of format plant ident start next' rates flag') k m rates)
 
   yearly : write_body (fields_of 201 plant ident start next rates flag) room ≡ write_body (fields_of 201 plant ident start next' rates flag') room
   unfolding write_body format_of digits_fit months_fit field_records

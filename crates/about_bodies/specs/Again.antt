@@ -1,5 +1,6 @@
 -- 'A body whose records share a schedule ID, read and written, is itself' (01, Beside the unit), of what the functions answer.
 -- Proved in proofs/Again.antt: `body-again`.
+use Rattle.std.specs.Option.{unwrap_or, option_map}
 use Rattle.std.specs.Prelude.{ℕ, ◌≤◌, ◌<◌, ◌≡◌, Bool, true, List, length, take, Ok, Option, None, Some}
 use Rattle.rules.specs.Plant.{plant_id}
 use Rattle.rules.specs.Name.{format_number}
@@ -9,6 +10,7 @@ use Rattle.rules.specs.Writer.{Fields, written_of, buffer_after, write_body}
 use Rattle.rules.specs.declared.Format.{Format}
 use Rattle.rules.specs.Reading.{reading_of}
 use Rattle.rules.specs.declared.Summary.{Summary}
+use Rattle.rules.specs.declared.Update.{Update}
 use Rattle.plan.specs.Fields.{fields_of}
 use Rattle.records.specs.Reading.{field_in, record_in, rates_output}
 use Rattle.records.specs.declared.Field.{Field}
@@ -28,11 +30,15 @@ first x f body = field_in x (record_in f body 0)
 abbrev pub copied : Format → List ℕ → ℕ → List ℕ → List ℕ
 copied f body n space = take n (buffer_after (rates_output f body (length space)) space)
 
+-- the flag of a 203; 0 where there is none
+abbrev pub flag_again : Option Update → ℕ
+flag_again u = unwrap_or (option_map (λ x. x.flag) u) 0
+
 -- the fields that are handed to `write_body`: x is what reading answered, `space` the buffer that the rates were copied into
 abbrev pub fields_again : List ℕ → Summary → List ℕ → Fields
 fields_again body x space =
     fields_of (format_number x.format) (first Plant x.format body) (first Schedule x.format body) (first Start x.format body)
-    (first Next x.format body) (copied x.format body x.rates space) x.flag
+    (first Next x.format body) (copied x.format body x.rates space) (flag_again x.update)
 
 -- the records share a schedule ID
 abbrev pub Shared : Format → List ℕ → Type 0

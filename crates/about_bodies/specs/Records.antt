@@ -16,6 +16,10 @@ SameRecords =
     (plant : Option (List ℕ)) (name body : List ℕ) (f : File) (i : ℕ)
     → read_file plant name body ≡ file f → record_in f.name.format body i ≡ slice_get (records_in f.body) i
 
+-- n bytes of a body, at a place that there is
+abbrev pub StandsAt : List ℕ → Option ℕ → ℕ → List ℕ → Type 0
+StandsAt body place n bytes = (at : ℕ) × (place ≡ Some at) × (part body at n ≡ bytes)
+
 -- the record r stands at the places p of a body
 pub record FieldsAt (f : Format) (body : List ℕ) (p : Places) (r : Record) : Type 0 where
   pub schedule : part body p.schedule 10 ≡ r.schedule
@@ -24,8 +28,8 @@ pub record FieldsAt (f : Format) (body : List ℕ) (p : Places) (r : Record) : T
   pub rates : part body p.rates p.count ≡ r.rates
   pub count : p.count ≡ length r.rates
   pub checksum : part body p.checksum 2 ≡ r.checksum
-  pub flag : f ≡ F203 → part body p.flag 1 ≡ r.flag
-  pub next : f ≡ F203 → part body p.next 14 ≡ r.next
+  pub flag : f ≡ F203 → StandsAt body p.flag 1 r.flag
+  pub next : f ≡ F203 → StandsAt body p.next 14 r.next
 
 -- each record of a body is located
 abbrev pub PlacesFound : Type 0

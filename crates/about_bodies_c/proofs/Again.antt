@@ -1,5 +1,6 @@
 -- A body that C reads, takes apart and writes again is itself.
 use Rattle.std.specs.Prelude.{Result, Ok, Err, Option, None, Some, slice_get}
+use Rattle.std.specs.Option.{unwrap_or}
 use Prim.Native.Nat.{ℕ, zero, suc, ◌≤◌, ◌<◌}
 use mathlib.Core.Path.{◌≡◌, ◌∙◌, refl, sym, ap, subst}
 use mathlib.Core.Bool.{true, false≢true}
@@ -30,7 +31,7 @@ use Rattle.c_answers.specs.Answers.{file_numbers, written_numbers}
 use Rattle.c_bodies.specs.Places.{places_numbers}
 use Rattle.c_bodies.specs.declared.RecordPlaces.{RecordPlaces}
 use Rattle.c_bodies.specs.Bodies.{locate_by, rates_by}
-use Rattle.about_bodies.specs.Again.{fields_again}
+use Rattle.about_bodies.specs.Again.{fields_again, flag_again}
 use Rattle.about_bodies.proofs.Records.{places-found, places-hold}
 use Rattle.about_bodies.proofs.Unread.{not-looked-at}
 use Rattle.about_bodies.proofs.Again.{format-of, record_is, record-count, count-is, body-again}
@@ -68,7 +69,10 @@ located-at f body i r h =
       schedule = ap (λ (o : Result Places Cause). part body (places_numbers o).schedule 10) e ∙ a.schedule ∙ sym (ap (field_in Schedule) q);
       plant = ap (λ (o : Result Places Cause). part body (places_numbers o).plant 26) e ∙ a.plant ∙ sym (ap (field_in Plant) q);
       start = ap (λ (o : Result Places Cause). part body (places_numbers o).start 12) e ∙ a.start ∙ sym (ap (field_in Start) q);
-      next = λ k. ap (λ (o : Result Places Cause). part body (places_numbers o).next 14) e ∙ a.next k ∙ sym (ap (field_in Next) q);
+      next = λ k.
+          let n = a.next k in
+          ap (λ (o : Result Places Cause). part body (places_numbers o).next 14) e
+          ∙ ap (λ (o : Option ℕ). part body (unwrap_or o 0) 14) n.1 ∙ n.2 ∙ sym (ap (field_in Next) q);
     }
 
 some_at : (rs : List Record) (i : ℕ) → i < length rs → (r : Record) × (slice_get rs i ≡ Some r)
@@ -80,7 +84,8 @@ some_at (r ∷ rs) (suc i) h = some_at rs i (omega arith)
 
 same-written : (f : Format) (plant plant' ident ident' start start' next next' rates rates' : List ℕ) (flag room : ℕ) → is_schedule f ≡ true
     → plant ≡ plant' → ident ≡ ident' → start ≡ start' → (f ≡ F203 → next ≡ next') → rates ≡ rates'
-    → write_body (fields_of (format_number f) plant ident start next rates flag) room ≡ write_body (fields_of (format_number f) plant' ident' start' next' rates' flag) room
+    → write_body (fields_of (format_number f) plant ident start next rates flag) room
+    ≡ write_body (fields_of (format_number f) plant' ident' start' next' rates' flag) room
 same-written F201 plant plant' ident ident' start start' next next' rates rates' flag room i p s t n r =
     rw (p, s, t, r) (not-looked-at 201 plant' ident' start' next next' rates' flag flag room refl)
 same-written F202 plant plant' ident ident' start start' next next' rates rates' flag room i p s t n r =
@@ -118,7 +123,8 @@ module _ (name body space out : List ℕ) (s : Summary) (q : reading_of (read_fi
       let c = count-is None name body space out g the-read.is i' in
       let e = ap count_of format-is in
       let r = some_at (records_in g.body) k (omega arith) in
-      located-at f body k r.0 (subst (λ (z : Format). record_in z body k ≡ Some r.0) (sym format-is) (record_is None name body space out g the-read.is i' k ∙ r.1))
+      let is = record_is None name body space out g the-read.is i' k ∙ r.1 in
+      located-at f body k r.0 (subst (λ (z : Format). record_in z body k ≡ Some r.0) (sym format-is) is)
 
   -- the number of the format stands for it
   places_is : (k : ℕ) → places (file_numbers (Ok s)) body k ≡ places_numbers (locate f body k)
@@ -139,7 +145,7 @@ module _ (name body space out : List ℕ) (s : Summary) (q : reading_of (read_fi
       (part body (places (file_numbers (Ok s)) body 0).start 12) (field_in Start (record_in f body 0))
       (part body (places (file_numbers (Ok s)) body 0).next 14) (field_in Next (record_in f body 0))
       (copied (file_numbers (Ok s)) body space) (take s.rates (buffer_after (rates_output f body (length space)) space))
-      s.flag (length out) i
+      (flag_again s.update) (length out) i
       (ap (λ (p : RecordPlaces). part body p.plant 26) (places_is 0) ∙ z.plant)
       (schedule-at 0 (count-positive f))
       (ap (λ (p : RecordPlaces). part body p.start 12) (places_is 0) ∙ z.start)

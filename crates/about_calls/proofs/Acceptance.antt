@@ -28,7 +28,7 @@ use Rattle.about_store.proofs.Laws.{taken-good}
 use Rattle.unit.specs.Values.{is_sound}
 use Rattle.taking.specs.Taken.{outcome_taken, full_row}
 use Rattle.unit.specs.declared.Unit.{Unit}
-use Rattle.unit.proofs.CallLaws.{sound-is}
+use Rattle.unit.proofs.CallLaws.{sound_is}
 use Rattle.about_calls.specs.Acceptance.{holds_month, together, AcceptsLawful}
 
 -- ---- the pool of a sound unit
@@ -39,7 +39,7 @@ sound-pool u e =
     let c = Rattle.rules.specs.Store.sound_clock (u.clock) in
     let v = Rattle.plant.specs.Plant.valid_plant u.plant && ltb u.floor month_count in
     let s = sound_pool u.pool u.floor in
-    let e₃ = both (v && s && q && c) _ (sym (sound-is u) ∙ e) in
+    let e₃ = both (v && s && q && c) _ (sym (sound_is u) ∙ e) in
     let e₂ = both (v && s && q) c e₃.0 in
     let e₁ = both (v && s) q e₂.0 in
     pool-facts u.pool u.floor (both v s e₁.0).1

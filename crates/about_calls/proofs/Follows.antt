@@ -21,7 +21,7 @@ use Rattle.about_store.specs.Agrees.{Agrees}
 use Rattle.about_store.proofs.Laws.{pool-sound, store-sound, months-agree, blocks-agree}
 use Rattle.unit.specs.Values.{is_sound, fresh_pool}
 use Rattle.calls.specs.Step.{State}
-use Rattle.unit.proofs.CallLaws.{sound-is}
+use Rattle.unit.proofs.CallLaws.{sound_is}
 use Rattle.about_calls.specs.Theorem.{Holds}
 
 abbrev pub stored : State → Stored
@@ -68,7 +68,7 @@ module _ (p : Plant) (valid : valid_plant p ≡ true) (n : ℕ) (s : State) (M :
   pub follows-sound : is_sound s.unit ≡ true
   follows-sound =
       let floor : s.unit.floor < month_count = rw h.floor (kept-floor s M h.kept) in
-      sound-is s.unit
+      sound_is s.unit
       ∙ rw (
         h.plant,
         valid,

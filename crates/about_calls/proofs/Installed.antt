@@ -23,7 +23,7 @@ use Rattle.unit.specs.Values.{values_of, is_sound, fresh_unit, installed_unit}
 use Rattle.unit.specs.Request.{request_of}
 use Rattle.calls.specs.Step.{State, replies, after}
 use Rattle.unit.specs.declared.Unit.{Unit}
-use Rattle.unit.proofs.CallLaws.{sound-is}
+use Rattle.unit.proofs.CallLaws.{sound_is}
 use Rattle.about_calls.specs.Theorem.{fresh, Holds, installed_state, told_by, EveryListInstalled}
 use Rattle.about_calls.specs.Installed.{InstallRefuses, InstallAccepts, SameValues, InstallFresh, RefusedInstall}
 use Rattle.about_calls.proofs.EveryList.{every-list}
@@ -104,7 +104,7 @@ install-fresh id mac set e = record {
 
 pub none-sound : is_sound (fresh_unit no_plant) ≡ false
 unfolding fresh_unit
-none-sound = sound-is (fresh_unit no_plant) ∙ rw no-plant refl
+none-sound = sound_is (fresh_unit no_plant) ∙ rw no-plant refl
 
 pub refused-install : RefusedInstall
 unfolding installed_unit installed request_of

@@ -35,7 +35,7 @@ use Rattle.polling.specs.Due.{asks_fixed, due_for}
 use Rattle.ceiling.specs.Ceiling.{slot_ceiling}
 use Rattle.unit.specs.Values.{is_sound}
 use Rattle.unit.specs.Rows.{length_row, unit_row, sound_row, clock_row, tick_row, slot_row, status_row}
-use Rattle.unit.specs.Calls.{done_by, ticked, tick_of, lost, lost_of, with_failure, failure_of, due_by, due_of, clock_time, ceiling_by, ceiling_of as ceiling_at, command_by, command_of, free_by, free_of}
+use Rattle.unit.specs.Calls.{done_by, ticked, tick_of, lost, lost_of, with_failure, failure_of, answer_by, due_of, clock_time, ceiling_of as ceiling_at, command_of, free_of}
 use Rattle.taking.specs.Taken.{outcome_rows, outcome_taken, store_taken, taken, outcome_row, store_by, store_with, take_of, response_of}
 use Rattle.calls.specs.Step.{State, step_done, step}
 use Rattle.unit.specs.declared.Unit.{Unit}
@@ -168,13 +168,13 @@ step-refuses (failure kind status) s k e = ap (λ (o : Option Cause). step_done 
 step-refuses due s k e =
     let u = s.unit in
     let due = due_for (settings_of u.plant) (last_digit u.plant.id) (clock_time u.clock) (requests_of u.requests) in
-    ap (λ (o : Option Cause). (of_due (due_by o due), s)) e
+    ap (λ (o : Option Cause). (of_due (answer_by o due), s)) e
 step-refuses (ceiling_of slot) s k e =
     ap (λ (o : Option Cause).
-    (of_ceiling (ceiling_by o (slot_ceiling (settings_of s.unit.plant) (stored_rate s.unit.pool s.store slot))), s)) e
-step-refuses command s k e = ap (λ (o : Option Cause). (of_command (command_by o s.unit.command), s)) e
+    (of_ceiling (answer_by o (slot_ceiling (settings_of s.unit.plant) (stored_rate s.unit.pool s.store slot))), s)) e
+step-refuses command s k e = ap (λ (o : Option Cause). (of_command (answer_by o s.unit.command), s)) e
 step-refuses free_blocks s k e =
-    ap (λ (o : Option Cause). (of_free_blocks (free_by o (free_count s.unit.pool)), s)) e
+    ap (λ (o : Option Cause). (of_free_blocks (answer_by o (free_count s.unit.pool)), s)) e
 
 -- ---- where no row applies
 
@@ -206,13 +206,13 @@ step-answers (failure kind status) s e =
 step-answers due s e =
     let u = s.unit in
     let due = due_for (settings_of u.plant) (last_digit u.plant.id) (clock_time u.clock) (requests_of u.requests) in
-    ap (λ (o : Option Cause). is_refused (of_due (due_by o due))) e
+    ap (λ (o : Option Cause). is_refused (of_due (answer_by o due))) e
     ∙ due-answers _ _ _ _
 step-answers (ceiling_of slot) s e =
-    ap (λ (o : Option Cause). is_refused (of_ceiling (ceiling_by o (slot_ceiling (settings_of s.unit.plant) (stored_rate s.unit.pool s.store slot))))) e
+    ap (λ (o : Option Cause). is_refused (of_ceiling (answer_by o (slot_ceiling (settings_of s.unit.plant) (stored_rate s.unit.pool s.store slot))))) e
     ∙ ceiling-answers (stored_rate s.unit.pool s.store slot) (settings_of s.unit.plant)
-step-answers command s e = ap (λ (o : Option Cause). is_refused (of_command (command_by o s.unit.command))) e
-step-answers free_blocks s e = ap (λ (o : Option Cause). is_refused (of_free_blocks (free_by o (free_count s.unit.pool)))) e
+step-answers command s e = ap (λ (o : Option Cause). is_refused (of_command (answer_by o s.unit.command))) e
+step-answers free_blocks s e = ap (λ (o : Option Cause). is_refused (of_free_blocks (answer_by o (free_count s.unit.pool)))) e
 
 -- ---- the theorems
 

@@ -39,7 +39,7 @@ same-record r q a b c d e f g =
     λ i. record { schedule = a i; plant = b i; start = c i; rates = d i; flag = e i; checksum = f i; next = g i }
 
 -- no bytes at all
-none_left : (s : List ℕ) → length s ≡ 0 → [] ≡ s
+pub none_left : (s : List ℕ) → length s ≡ 0 → [] ≡ s
 none_left [] l = refl
 none_left (x ∷ s) l = absurd (omega arith)
 

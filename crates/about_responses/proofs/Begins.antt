@@ -28,9 +28,6 @@ begins-fits p s e =
     let f : length s ≡ length (p ++ drop (length p) s) = ap length (begins-made p s e) in
     omega (arith, f, length-append p (drop (length p) s))
 
-pub too_short : (p s : List ℕ) → length s < length p → begins p s ≡ false
-too_short p s h = isnt (λ e. let l = begins-fits p s e in omega arith)
-
 -- what begins with two parts
 pub begins-parts : (p q s : List ℕ) → begins (p ++ q) s ≡ (begins p s && begins q (drop (length p) s))
 unfolding begins same_bytes

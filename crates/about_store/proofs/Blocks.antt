@@ -9,7 +9,8 @@ use lib.Dec.{ltb}
 use lib.ListN.{length, get_or}
 use lib.Seq.{ext_get_or}
 use borrow.Author.Tests.{eq-eqb}
-use Rattle.rules.specs.Store.{Held as HeldMonth, store_length, block_of, no_rate, to_byte, member, distinct, all, all_below, sound_months, sound_blocks, sound_store, block_count, block_length}
+use Rattle.rules.specs.Store.{Held as HeldMonth, store_length, block_of, no_rate, to_byte}
+use Rattle.rules.specs.Store.{member, distinct, all, all_below, sound_months, sound_blocks, sound_store, block_count, block_length}
 use Rattle.rules.specs.Machine.{Machine, is_held}
 use Rattle.laws.proofs.Tests.{both}
 use Rattle.pool.specs.Blocks.{is_free, month_of}

@@ -9,7 +9,8 @@ use lib.ListN.{length, take, drop, length-take, length-drop, take-append-drop}
 use lib.Seq.{drop-drop, drop-append-le}
 use borrow.Author.Tests.{leb-true, leb-false}
 use Rattle.rules.specs.Digits.{part, all_at_most, value_from, value}
-use Rattle.rules.specs.Calendar.{first_day, first_slot, slots_of_month, month_of_slot, day_in, hour_in, minute_in, second_in, month_at, exists, seconds_of, whole_minute, slot_length, day_length, slots_of_day, month_count, last_month, slot_count}
+use Rattle.rules.specs.Calendar.{first_day, first_slot, slots_of_month, month_of_slot, day_in, hour_in, minute_in, second_in}
+use Rattle.rules.specs.Calendar.{month_at, exists, seconds_of, whole_minute, slot_length, day_length, slots_of_day, month_count, last_month, slot_count}
 use Rattle.rules.specs.Body.{Record, every, highest_rate}
 use Rattle.rules.specs.File.{start_of, month_begins, whole_month, months_from}
 use Rattle.laws.proofs.Tests.{both}
@@ -66,7 +67,8 @@ module _ (s : List ℕ) (e : month_begins s ≡ true) where
       let f : first_day (month_at w) ≡ first_day m = ap first_day (month-same ∙ is) in
       plain (first_day (month_at w)) (first_day m) (day_in w) (hour_in w) (minute_in w) (second_in w) f day-one hour-zero minute-zero sec
     where
-      plain : (F G d h i x : ℕ) → F ≡ G → d ≡ 1 → h ≡ 0 → i ≡ 0 → x < 60 → (day_length * (F + (d - 1)) + (3600 * h + 60 * i + x)) / slot_length ≡ slots_of_day * G
+      plain : (F G d h i x : ℕ) → F ≡ G → d ≡ 1 → h ≡ 0 → i ≡ 0 → x < 60
+          → (day_length * (F + (d - 1)) + (3600 * h + 60 * i + x)) / slot_length ≡ slots_of_day * G
       plain F G d h i x a b c e l = rw (a, b, c, e) (omega arith)
 
 -- ---- whole months

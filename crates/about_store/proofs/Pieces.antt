@@ -82,7 +82,8 @@ module _ (k s : ℕ) (rates : List ℕ) where
 
   -- a slot of the piece, in numbers
   piece-slot : (i : ℕ) → in_piece i ≡ true
-      → (max s (first_slot k) - first_slot k ≤ i) × (i < max s (first_slot k) - first_slot k + (min (s + length rates) (first_slot (suc k)) - max s (first_slot k)))
+      → (max s (first_slot k) - first_slot k ≤ i)
+      × (i < max s (first_slot k) - first_slot k + (min (s + length rates) (first_slot (suc k)) - max s (first_slot k)))
   piece-slot i e = rw (piece-from, piece-length) at (between P.from i (P.from + length P.rates) e)
 
   pub piece-covers : (i : ℕ) → in_piece i ≡ run_covers k i s (length rates)

@@ -16,7 +16,8 @@ use Rattle.rules.specs.declared.Format.{Format}
 use Rattle.rules.specs.declared.Format.TheVariants.{F201, F202, F203, F301}
 use Rattle.laws.proofs.Tests.{both}
 use Rattle.calendar.proofs.Laws.{days-range, first-slot-step, slot-month-until}
-use Rattle.calendar.proofs.DateLaws.{start-below, cond-some}
+use Rattle.calendar.proofs.DateLaws.{start-below}
+use Rattle.std.proofs.lemmas.Option.{cond_some}
 use Rattle.about_files.proofs.Record.{form-facts}
 use Rattle.about_files.proofs.Accepted.{Scheduled, taken}
 use Rattle.about_store.specs.Run.{GoodRecord, RunFrom, run_start}
@@ -32,7 +33,7 @@ own-start s (r ∷ rs) g = (refl, g.1, rw g.0 g.2)
 
 start_is : (s : List ℕ) (k : ℕ) → start_slot s ≡ Some k → slot_of (seconds_of (whole_minute s)) ≡ k
 unfolding start_slot
-start_is s k e = (cond-some (digits 12 s && exists (whole_minute s) && half_hour s) (slot_of (seconds_of (whole_minute s))) k e).1
+start_is s k e = (cond_some (digits 12 s && exists (whole_minute s) && half_hour s) (slot_of (seconds_of (whole_minute s))) k e).1
 
 update-good : (r : Record) → update_dates r ≡ true → length r.rates ≤ 336 → all_at_most highest_rate r.rates ≡ true → GoodRecord r
 unfolding update_dates
@@ -67,7 +68,8 @@ update-run (r ∷ s ∷ rs) one form dates low = absurd (omega arith)
 schedule-run : (n : Name) (rs : List Record) → Scheduled n rs → RunFrom (run_start rs) rs
 schedule-run n rs k = go n.format k.kind k.count k.form k.dates
   where
-    go : (x : Format) → is_schedule x ≡ true → length rs ≡ count_of x → every (form_of_record x) rs ≡ true → record_dates n x rs ≡ true → RunFrom (run_start rs) rs
+    go : (x : Format) → is_schedule x ≡ true → length rs ≡ count_of x → every (form_of_record x) rs ≡ true → record_dates n x rs ≡ true
+        → RunFrom (run_start rs) rs
     go F201 i c f d = own-start (first_slot (first_month rs)) rs (months-run (first_month rs) rs d k.rates)
     go F202 i c f d = own-start (first_slot (segment_month n.segment)) rs (months-run (segment_month n.segment) rs d k.rates)
     go F203 i c f d = update-run rs c f d k.rates

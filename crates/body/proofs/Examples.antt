@@ -1,5 +1,5 @@
 -- A 203 body of three rates, and what is kept of it; with a rate of 101 it is refused. Computed from the definitions.
-use Rattle.std.specs.Prelude.{Ok, Err}
+use Rattle.std.specs.Prelude.{Ok, Err, Some, None}
 use mathlib.Core.Path.{◌≡◌, refl}
 use mathlib.Core.List.{List, ◌∷◌, ◌++◌}
 use Prim.Native.Nat.{ℕ}
@@ -26,7 +26,15 @@ body rate =
 
 three-rates : reading_of (with_body (name_of F203 0 plant) (parse_body F203 (body 28)))
     ≡ Ok
-    (record { format = F203; segment = 0; records = 1; rates = 3; start = 459955; flag = 2; next_access = 827926200; result = 0 })
+    (record {
+      format = F203;
+      segment = 0;
+      records = 1;
+      rates = 3;
+      start = Some 459955;
+      update = Some (record { flag = 2; next_access = 827926200 });
+      result = None;
+    })
 unfolding reading_of summary_of stages dates_hold rates_hold checksums_hold plants_hold update_dates sum checksum_of total_rates
     rates_of size_of record_shape record_at parse_records counted parse_body every days_of_month first_day exists seconds_of start_slot
     decimal all_at_most value_from same_bytes plant body

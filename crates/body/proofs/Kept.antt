@@ -1,7 +1,7 @@
 -- What is kept of an accepted schedule body is what `summary_of` says of its file.
 use Rattle.std.specs.Prelude.{Some, None, Option}
 use Prim.Native.Nat.{ℕ, suc, ◌+◌, ◌-◌, ◌*◌, ◌%◌, ◌≤◌}
-use mathlib.Core.Path.{◌≡◌, ◌∙◌, refl, sym, ap}
+use mathlib.Core.Path.{◌≡◌, ◌∙◌, refl, sym}
 use mathlib.Core.Bool.{Bool, true, false≢true}
 use mathlib.Core.List.{List, [], ◌∷◌}
 use native.Mathlib.Nat.{add-zero}
@@ -17,10 +17,11 @@ use Rattle.rules.specs.Lister.{total_rates}
 use Rattle.rules.specs.declared.Format.{Format}
 use Rattle.rules.specs.declared.Format.TheVariants.{F201, F202, F203, F301}
 use Rattle.form.specs.Walk.{shaped, records_from, Whole}
-use Rattle.body.specs.Records.{or_zero, access_at}
-use Rattle.rules.specs.Reading.{first_start, access_of, summary_of}
+use Rattle.body.specs.Records.{update_in, update_at}
+use Rattle.rules.specs.Reading.{first_start, update_of, summary_of}
 use Rattle.body.specs.Reading.{name_of, schedule_file}
 use Rattle.rules.specs.declared.Summary.{Summary}
+use Rattle.rules.specs.declared.Update.{Update}
 use Rattle.laws.proofs.Tests.{both}
 use Rattle.laws.proofs.Facts.{month-facts}
 use Rattle.digits.proofs.Parts.{part-to}
@@ -30,11 +31,13 @@ use Rattle.form.proofs.Walk.{count-positive, count-bound, whole-start, records-s
 use Rattle.form.proofs.Standing.{start-digits, records-count, rates-total}
 use Rattle.body.proofs.Starts.{segment-value, next-digits}
 
--- ---- flag, start and next access
+-- ---- start, flag and next access
 
-pub flag_is : (s : List ℕ) (n : ℕ) → n ≡ rates_of s → get_or s (53 + n) 0 ≡ flag_of (record_at F203 s ∷ [])
+flag_is : (s : List ℕ) (n : ℕ) → n ≡ rates_of s → get_or s (53 + n) 0 ≡ flag_of (record_at F203 s ∷ [])
 unfolding record_at
-flag_is s n n≡ = rw (n≡, get_or-take 1 (drop (53 + rates_of s) s) 0 0 (lit< tt), get_or-drop (53 + rates_of s) s 0 0, add-zero (53 + rates_of s)) refl
+flag_is s n n≡ =
+    let at = 53 + rates_of s in
+    rw (n≡, get_or-take 1 (drop at s) 0 0 (lit< tt), get_or-drop at s 0 0, add-zero at) refl
 
 -- the first record of a body
 first-record : (f : Format) (s : List ℕ)
@@ -66,12 +69,13 @@ update-start s h =
     go n t None e i = absurd (false≢true i)
     go n t (Some k) e i = let r = is-start t e in (r.1, r.2)
 
-next-is : (s : List ℕ) → Whole F203 s → update_dates (record_at F203 s) ≡ true → or_zero (moment (record_at F203 s).next) ≡ seconds_of (record_at F203 s).next
+next-is : (s : List ℕ) → Whole F203 s → update_dates (record_at F203 s) ≡ true
+    → moment (record_at F203 s).next ≡ Some (seconds_of (record_at F203 s).next)
 unfolding update_dates record_at
 next-is s w h =
     let u = part s (53 + rates_of s + 1 + 2) 14 in
     let e = (both (in_time (length (part s 53 (rates_of s))) (start_slot (part s 36 12))) (exists u) h).1 in
-    ap or_zero (moment-some u (next-digits s w (rates_of s) refl) e)
+    moment-some u (next-digits s w (rates_of s) refl) e
 
 -- an accepted record's start is a slot's
 starts : (f : Format) (segment : ℕ) (s : List ℕ) → is_schedule f ≡ true → Whole f s
@@ -83,19 +87,21 @@ starts F203 segment s i w d = update-start s (every_first update_dates (records_
 starts F301 segment s i w d = absurd (false≢true i)
 
 -- and the next access of a 203 exists
-access_is : (f : Format) (segment : ℕ) (s : List ℕ) → Whole f s
+update_is : (f : Format) (segment : ℕ) (s : List ℕ) → Whole f s
     → record_dates (name_of f segment []) f (records_from f (count_of f) s) ≡ true
-    → access_at f s ≡ access_of f (records_from f (count_of f) s)
-access_is F201 segment s w d = refl
-access_is F202 segment s w d = refl
-access_is F203 segment s w d = rw (first-record F203 s) (next-is s w (every_first update_dates (records_from F203 1 s) (first-record F203 s) d))
-access_is F301 segment s w d = refl
+    → update_at f s ≡ update_of f (records_from f (count_of f) s)
+update_is F201 segment s w d = refl
+update_is F202 segment s w d = refl
+update_is F203 segment s w d =
+    let first = first-record F203 s in
+    rw (first, next-is s w (every_first update_dates (records_from F203 1 s) first d)) refl
+update_is F301 segment s w d = refl
 
 -- ---- the whole of it
 
 module _ (f : Format) (segment : ℕ) (s : List ℕ) (i : is_schedule f ≡ true) (e : shaped f (count_of f) s ≡ true)
     (d : record_dates (name_of f segment []) f (records_from f (count_of f) s) ≡ true) where
-  start-kept : or_zero (start_slot (part s 36 12)) ≡ first_start (records_from f (count_of f) s)
+  start-kept : start_slot (part s 36 12) ≡ first_start (records_from f (count_of f) s)
   unfolding record_at
   start-kept =
       let w = whole-start f s e in
@@ -103,24 +109,20 @@ module _ (f : Format) (segment : ℕ) (s : List ℕ) (i : is_schedule f ≡ true
       let r = starts f segment s i w d in
       rw (first-record f s, start-some t (start-digits f s w) r.0 r.1) refl
 
-  flag-kept : flag_of (record_at f s ∷ []) ≡ flag_of (records_from f (count_of f) s)
-  flag-kept = rw (first-record f s) refl
-
-  -- x is the bytes beside the rates, k the records, a, g and n start, flag and next access
-  pub summary_is : (x k a g n : ℕ) → x ≡ count_of f * (53 + tail_digits f) → k ≡ count_of f → a ≡ or_zero (start_slot (part s 36 12))
-      → g ≡ flag_of (record_at f s ∷ []) → n ≡ access_at f s
+  -- x is the bytes beside the rates, k the records, a the start, u flag and next access
+  pub summary_is : (x k : ℕ) (a : Option ℕ) (u : Option Update) → x ≡ count_of f * (53 + tail_digits f) → k ≡ count_of f
+      → a ≡ start_slot (part s 36 12) → u ≡ update_at f s
       → ◌≡◌ {A = Summary}
-      (record { format = f; segment = segment % 10000; records = k; rates = length s - x; start = a; flag = g; next_access = n; result = 0 })
+      (record { format = f; segment = segment % 10000; records = k; rates = length s - x; start = a; update = u; result = None })
       (summary_of (schedule_file f segment [] (records_from f (count_of f) s)))
   unfolding summary_of
-  summary_is x k a g n x≡ k≡ a≡ g≡ n≡ =
+  summary_is x k a u x≡ k≡ a≡ u≡ =
       let t = rates-total f (count_of f) s e in
       let e₁ : segment % 10000 ≡ value (decimal 4 segment) = sym (segment-value segment) in
       let e₂ : k ≡ length (records_from f (count_of f) s) = k≡ ∙ sym (records-count f (count_of f) s) in
       let e₃ : length s - x ≡ total_rates (records_from f (count_of f) s) = omega (arith, t.0) in
       let e₄ : a ≡ first_start (records_from f (count_of f) s) = a≡ ∙ start-kept in
-      let e₅ : g ≡ flag_of (records_from f (count_of f) s) = g≡ ∙ flag-kept in
-      let e₆ : n ≡ access_of f (records_from f (count_of f) s) = n≡ ∙ access_is f segment s (whole-start f s e) d in
+      let e₅ : u ≡ update_of f (records_from f (count_of f) s) = u≡ ∙ update_is f segment s (whole-start f s e) d in
       cc
 
   pub rates-room : {x : ℕ} → x ≡ count_of f * (53 + tail_digits f) → (x ≤ length s) × (length s - x ≤ 1299987)
@@ -129,12 +131,18 @@ module _ (f : Format) (segment : ℕ) (s : List ℕ) (i : is_schedule f ≡ true
       let l : count_of f * 99999 ≤ 1299987 = omega (arith, count-bound f) in
       (omega (arith, t.0), omega (arith, t.0, t.1))
 
--- what `next_at` answers: n is the rate count
+-- what `update_in` answers: n is the rate count
 module _ (s : List ℕ) (n : ℕ) (n≡ : n ≡ rates_of s) where
   next-part : part s (53 + n + 1 + 2) (53 + n + 1 + 2 + 14 - (53 + n + 1 + 2)) ≡ (record_at F203 s).next
   unfolding record_at
   next-part = part-to s (53 + n + 1 + 2) 14 ∙ rw n≡ refl
 
-  pub next-at : (x : ℕ) → x ≡ or_zero (moment (part s (53 + n + 1 + 2) (53 + n + 1 + 2 + 14 - (53 + n + 1 + 2))))
-      → x ≡ or_zero (moment (record_at F203 s).next)
-  next-at x e = rw next-part at e
+  read-part : {o : Option ℕ} → o ≡ moment (part s (53 + n + 1 + 2) (53 + n + 1 + 2 + 14 - (53 + n + 1 + 2))) → o ≡ moment (record_at F203 s).next
+  read-part e = rw next-part at e
+
+  module _ {o : Option ℕ} (read : o ≡ moment (part s (53 + n + 1 + 2) (53 + n + 1 + 2 + 14 - (53 + n + 1 + 2)))) where
+    pub no-update : o ≡ None → None ≡ update_in s
+    no-update e = rw (sym (read-part read) ∙ e) refl
+
+    pub an-update : {t : ℕ} → o ≡ Some t → Some (record { flag = get_or s (53 + n) 0; next_access = t }) ≡ update_in s
+    an-update e = rw (sym (read-part read) ∙ e, flag_is s n n≡) refl

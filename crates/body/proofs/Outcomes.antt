@@ -113,7 +113,7 @@ module _ (segment : ℕ) (plant s : List ℕ) where
   pub registration-is : registered s ≡ true → reading_of (with_body (name_of F301 segment plant) (parse_rest F301 s))
       ≡ answer true true true (same_bytes (part s 0 26) plant)
       (Ok
-      (record { format = F301; segment = segment % 10000; records = 1; rates = 0; start = 0; flag = 0; next_access = 0; result = get_or s 26 0 }))
+      (record { format = F301; segment = segment % 10000; records = 1; rates = 0; start = None; update = None; result = Some (get_or s 26 0) }))
   unfolding dates_hold rates_hold checksums_hold plants_hold summary_of
   registration-is e =
       rw (registered-is, e)
@@ -125,7 +125,7 @@ module _ (segment : ℕ) (plant s : List ℕ) where
 
   pub registered-plant : registered s ≡ true → true ≡ same_bytes (part s 0 26) plant
       → Ok
-      (record { format = F301; segment = segment % 10000; records = 1; rates = 0; start = 0; flag = 0; next_access = 0; result = get_or s 26 0 })
+      (record { format = F301; segment = segment % 10000; records = 1; rates = 0; start = None; update = None; result = Some (get_or s 26 0) })
       ≡ reading_of (with_body (name_of F301 segment plant) (parse_rest F301 s))
   registered-plant e h = sym (registration-is e ∙ rw (sym h) refl)
 

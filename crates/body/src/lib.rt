@@ -12,6 +12,7 @@ ghost use Rattle.rules.specs.Reading.{reading_of};
 ghost use Rattle.rules.specs.declared.Format.TheVariants.{F301};
 ghost use Rattle.body.specs.Reading.{name_of};
 
+use layout::Records;
 use rules::{Cause, Format, Summary};
 
 // The records of a schedule, under a name with that format, segment and plant.
@@ -22,20 +23,20 @@ fn read_schedule(format: Format, segment: u16, plant: &[u8], s: &[u8]) -> Result
     if !form::records_stand(format, s) {
         return Err(Cause::Form);
     }
-    if !date_stage::dates_hold(format, segment, s) {
+    let records = Records::new(format, layout::record_count(format), s);
+    if !date_stage::dates_hold(segment, records) {
         return Err(Cause::Date);
     }
-    if !stages::records_hold(format, s, |rates, t| stages::rates_hold(format, rates, t)) {
+    let mut rated = records;
+    if !rated.all(|parts| stages::rates_hold(&parts)) {
         return Err(Cause::Rate);
     }
-    if !stages::records_hold(
-        format,
-        s,
-        |rates, t| stages::checksum_holds(format, rates, t),
-    ) {
+    let mut summed = records;
+    if !summed.all(|parts| stages::checksum_holds(&parts)) {
         return Err(Cause::Checksum);
     }
-    if !stages::records_hold(format, s, |_, t| stages::plant_holds(plant, t)) {
+    let mut named = records;
+    if !named.all(|parts| stages::plant_holds(plant, &parts)) {
         return Err(Cause::RecordPlant);
     }
     Ok(accepted::schedule_summary(format, segment, s))
@@ -51,16 +52,14 @@ fn read_registration(segment: u16, plant: &[u8], s: &[u8]) -> Result<Summary, Ca
     if !digits::same(&s[0..layout::RESULT], plant) {
         return Err(Cause::RecordPlant);
     }
-    let result = s[layout::RESULT];
     Ok(Summary {
         format: Format::F301,
         segment: segment % accepted::SEGMENTS,
         records: 1,
         rates: 0,
-        start: 0,
-        flag: 0,
-        next_access: 0,
-        result,
+        start: None,
+        update: None,
+        result: Some(s[layout::RESULT]),
     })
 }
 

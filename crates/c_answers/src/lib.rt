@@ -137,7 +137,7 @@ impl From<Result<Option<Ceiling>, Cause>> for CeilingAnswer {
     }
 }
 
-// What a file says.
+// What a file says; 0 where its format has none.
 impl From<Result<Summary, Cause>> for FileAnswer {
     ghost from_gives = { λ reading n. n ≡ file_numbers reading };
 
@@ -149,10 +149,10 @@ impl From<Result<Summary, Cause>> for FileAnswer {
                 segment: u32::from(summary.segment),
                 records: summary.records,
                 rates: summary.rates,
-                start: summary.start,
-                flag: u32::from(summary.flag),
-                next_access: summary.next_access,
-                result: u32::from(summary.result),
+                start: summary.start.unwrap_or(0),
+                flag: summary.update.map_or(0, |update| u32::from(update.flag)),
+                next_access: summary.update.map_or(0, |update| update.next_access),
+                result: summary.result.map_or(0, u32::from),
             },
             Err(cause) => FileAnswer {
                 cause: u32::from(cause),

@@ -1,4 +1,5 @@
--- Where a record's fields stand, as C gets it: places that are 0 where it is refused, and 0 or a cause's number.
+-- Where a record's fields stand, as C gets it: places that are 0 where it is refused, or has no such field, and 0 or a cause's number.
+use Rattle.std.specs.Option.{unwrap_or}
 use Rattle.std.specs.Prelude.{ℕ, Result, Ok, Err}
 use Rattle.rules.specs.Causes.{number_of}
 use Rattle.rules.specs.declared.Cause.{Cause}
@@ -15,9 +16,9 @@ places_numbers (Ok p) = record {
   start = p.start;
   rates = p.rates;
   count = p.count;
-  flag = p.flag;
+  flag = unwrap_or p.flag 0;
   checksum = p.checksum;
-  next = p.next;
+  next = unwrap_or p.next 0;
   cause = 0;
 }
 places_numbers (Err c) = no_places (number_of c)

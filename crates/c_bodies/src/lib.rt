@@ -25,7 +25,7 @@ pub fn copied(format: u32, body: &[u8], out: &mut [u8]) -> Result<usize, Cause>
     records::copy_rates(Format::try_from(format)?, body, out)
 }
 
-// Where a record's fields stand: places that are 0 where it is refused, and 0 or a cause's number.
+// Where a record's fields stand: places that are 0 where it is refused, or has no such field, and 0 or a cause's number.
 #[repr(C)]
 #[derive(Clone, Copy, Debug, Default, PartialEq, Eq)]
 pub struct RecordPlaces {
@@ -51,9 +51,9 @@ impl From<Result<Places, Cause>> for RecordPlaces {
                 start: places.start,
                 rates: places.rates,
                 count: places.count,
-                flag: places.flag,
+                flag: places.flag.unwrap_or(0),
                 checksum: places.checksum,
-                next: places.next,
+                next: places.next.unwrap_or(0),
                 cause: 0,
             },
             Err(cause) => RecordPlaces {

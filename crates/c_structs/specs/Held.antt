@@ -1,8 +1,7 @@
 -- The unit as C holds it: which unit a struct stands for, and what a call hands back.
-use Rattle.rules.specs.Causes.{Answer}
 use Rattle.std.specs.Option.{unwrap_or}
 use Rattle.std.specs.Prelude.{ℕ, Bool, true, cond, ◌&&◌, eqb, Option, Some, None, Ok, Err}
-use Rattle.rules.specs.Causes.{number_of}
+use Rattle.rules.specs.Causes.{Answer, number_of}
 use Rattle.rules.specs.Plant.{Settings}
 use Rattle.plant.specs.Plant.{kept_from, narrowed, is_kept, settings_of}
 use Rattle.unit.specs.declared.Unit.{Unit}

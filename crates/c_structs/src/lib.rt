@@ -3,12 +3,12 @@
 
 ghost use Rattle.std.specs.Prelude.{◌≡◌};
 ghost use Rattle.plant.specs.Plant.{given_of};
-ghost use Rattle.c_structs.specs.Held.{settings_in, settings_held, clock_from, mark_of, opened, shut_of, answer_number, handed, newly};
+ghost use Rattle.c_structs.specs.Held.{settings_in, settings_held, clock_from, opened, shut_of, handed, newly};
 
 use plant::{GivenSettings, Plant};
 use polling::Requests;
 use pool::Pool;
-use rules::{BLOCK_COUNT, Cause};
+use rules::BLOCK_COUNT;
 use unit::{Done, Installed, Unit};
 
 // The settings in fields of fixed layout: wide, as an installer gives them.
@@ -82,21 +82,10 @@ const NEVER: u32 = 4294967295;
 fn clock_from(mark: u8, second: u32) -> Option<u32>
     ensures { result ≡ clock_from mark second }
 {
-    if mark == 1 {
-        return Some(second);
-    }
-    if (mark == 0) & (second == 0) {
-        return None;
-    }
-    Some(NEVER)
-}
-
-fn mark_of(clock: Option<u32>) -> u8
-    ensures { result ≡ mark_of clock }
-{
-    match clock {
-        None => 0,
-        Some(_) => 1,
+    match (mark, second) {
+        (1, _) => Some(second),
+        (0, 0) => None,
+        _ => Some(NEVER),
     }
 }
 
@@ -159,7 +148,7 @@ impl From<Unit> for HeldUnit {
             wanted_flag: requests.wanted_flag,
             held_flag: requests.held_flag,
             failures: requests.failures,
-            clock_set: mark_of(clock),
+            clock_set: u8::from(clock.is_some()),
             floor,
             months,
             free,
@@ -167,18 +156,8 @@ impl From<Unit> for HeldUnit {
             command,
             fixed_at: requests.fixed_at,
             update_at: requests.update_at,
-            settings: HeldSettings::from(settings.widened()),
+            settings: HeldSettings::from(GivenSettings::from(settings)),
         }
-    }
-}
-
-// 0, or the number of the cause, as C gets it.
-fn answer_number(answer: Result<(), Cause>) -> u32
-    ensures { result ≡ answer_number answer }
-{
-    match answer {
-        Ok(()) => 0,
-        Err(cause) => u32::from(cause),
     }
 }
 
@@ -207,7 +186,7 @@ impl From<Installed> for Handed {
     fn from(installed: Installed) -> Handed {
         Handed {
             unit: HeldUnit::from(installed.unit),
-            cause: answer_number(installed.answer),
+            cause: installed.answer.err().map_or(0, u32::from),
         }
     }
 }

@@ -1,6 +1,6 @@
 -- Laws of a start that begins a month: its date exists where its month does.
 use Rattle.std.specs.Prelude.{Some, None, cond}
-use Prim.Native.Nat.{ℕ, ◌+◌, ◌-◌, ◌*◌, ◌≤◌, ◌<◌}
+use Prim.Native.Nat.{ℕ, ◌+◌, ◌≤◌, ◌<◌}
 use mathlib.Core.Path.{◌≡◌, ◌∙◌, refl, sym, ap}
 use mathlib.Core.Bool.{Bool, true, false, ◌&&◌, and-false, and-true}
 use mathlib.Core.List.{List, [], ◌∷◌}
@@ -8,17 +8,17 @@ use native.Mathlib.Omega.{arith}
 use lib.Dec.{lit≤}
 use lib.ListN.{length, take}
 use lib.Seq.{drop_at}
-use borrow.Author.Tests.{le-leb, eq-eqb, ne_eqb}
+use borrow.Author.Tests.{le-leb, eq-eqb}
 use Rattle.rules.specs.Digits.{part, all_digits, digits, value_from, value}
-use Rattle.rules.specs.Calendar.{month_count, days_of_month, year_in, month_in, day_in, hour_in, minute_in, second_in, month_at, exists, whole_minute, half_hour}
+use Rattle.rules.specs.Calendar.{month_count, days_of_month}
+use Rattle.rules.specs.Calendar.{year_in, month_in, day_in, hour_in, minute_in, second_in, month_at, exists, whole_minute, half_hour}
 use Rattle.rules.specs.File.{month_begins}
 use Rattle.laws.proofs.Tests.{both}
 use Rattle.laws.proofs.Bytes.{same-equal, part-front}
 use Rattle.digits.proofs.Parts.{part-part, digits-length}
 use Rattle.calendar.specs.Moments.{month_begun, month_exists}
 use Rattle.calendar.proofs.Laws.{days-range}
-use Rattle.calendar.proofs.Scan.{four_is}
-use Rattle.calendar.proofs.DateLaws.{month-facts, exists-is}
+use Rattle.calendar.proofs.DateLaws.{month-facts, exists_is}
 
 -- the digits from the day on
 module _ (s : List ℕ) (b : month_begins s ≡ true) where
@@ -50,36 +50,17 @@ module _ (s : List ℕ) (full : length s ≡ 12) where
       let minute : minute_in w ≡ 0 = ap value (part-front s (0 ∷ 0 ∷ []) 10 2 (omega arith) ∙ pairs s b 4 (lit≤ tt)) in
       let second : second_in w ≡ 0 = ap (λ (l : List ℕ). value (take 2 l)) (drop_at s (0 ∷ 0 ∷ []) 12 full) in
       let days : 1 ≤ days_of_month (month_at w) = omega (arith, (days-range (month_at w)).0) in
-      exists-is w
+      exists_is w
       ∙ rw (day, hour, minute, second, le-leb 1 (days_of_month (month_at w)) days, year-whole, month-whole) (and-true (month_exists (year_in s) (month_in s)))
 
--- ---- what `month_begun` reads of 12 bytes: the year's two pairs and the month
-
-module _ (s : List ℕ) where
-  pub begun-short : (length s ≡ 12 → ⊥) → None ≡ month_begun s
-  unfolding month_begun
-  begun-short h = rw (ne_eqb (length s) 12 h) refl
-
-  module _ (full : length s ≡ 12) {p q m : ℕ} (p≡ : p ≡ value (part s 0 2)) (q≡ : q ≡ value (part s 2 2)) (m≡ : m ≡ month_in s) where
-    year-is : year_in s ≡ 100 * p + q
-    year-is = omega (arith, four_is s 0 (omega arith))
-
-    -- the test that it makes
-    begun-test : (all_digits s && month_exists (100 * p + q) m && month_begins s) ≡ (digits 12 s && exists (whole_minute s) && month_begins s)
-    begun-test = rw (eq-eqb (length s) 12 full, ← year-is, m≡) (go (month_begins s) refl)
-      where
-        go : (b : Bool) → month_begins s ≡ b → (all_digits s && month_exists (year_in s) (month_in s) && b) ≡ (all_digits s && exists (whole_minute s) && b)
-        go true e = rw (begins-exists s full e) refl
-        go false e = and-false (all_digits s && month_exists (year_in s) (month_in s)) ∙ sym (and-false (all_digits s && exists (whole_minute s)))
-
-    pub begun-not : (all_digits s && month_exists (100 * p + q) m && month_begins s) ≡ false → None ≡ month_begun s
-    unfolding month_begun
-    begun-not e = rw (sym begun-test ∙ e) refl
-
-    pub begun-is : (all_digits s && month_exists (100 * p + q) m && month_begins s) ≡ true
-        → Some (12 * (100 * p + q - 2000) + (m - 1)) ≡ month_begun s
-    unfolding month_begun
-    begun-is e = rw (sym begun-test ∙ e, year-is, m≡) refl
+  -- what `month_begun` tests
+  pub begun_is : (digits 12 s && exists (whole_minute s) && month_begins s) ≡ (all_digits s && month_exists (year_in s) (month_in s) && month_begins s)
+  begun_is = rw (eq-eqb (length s) 12 full) (go (month_begins s) refl)
+    where
+      go : (b : Bool) → month_begins s ≡ b
+          → (all_digits s && exists (whole_minute s) && b) ≡ (all_digits s && month_exists (year_in s) (month_in s) && b)
+      go true e = rw (begins-exists e) refl
+      go false e = and-false (all_digits s && exists (whole_minute s)) ∙ sym (and-false (all_digits s && month_exists (year_in s) (month_in s)))
 
 -- ---- what its answer says
 

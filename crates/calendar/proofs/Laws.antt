@@ -6,7 +6,8 @@ use native.Mathlib.Omega.{arith}
 use native.Mathlib.Nat.{add-suc, add-zero, zero-add}
 use lib.Dec.{leb, ltb}
 use borrow.Author.Tests.{le-ltb, ltb-true, ltb-false, leb-true, leb-false}
-use Rattle.rules.specs.Calendar.{days_of_month, slots_of_month, first_day, first_slot, month_from, month_of_day, month_of_slot, slot_of, month_of, slots_of_day, month_count, day_count, slot_count, day_length, slot_length}
+use Rattle.rules.specs.Calendar.{days_of_month, slots_of_month, first_day, first_slot, month_from, month_of_day, month_of_slot, slot_of, month_of}
+use Rattle.rules.specs.Calendar.{slots_of_day, month_count, day_count, slot_count, day_length, slot_length}
 use Rattle.laws.proofs.Tests.{both}
 use Rattle.calendar.specs.Cycle.{every, Within}
 use Rattle.calendar.proofs.Tests.{every-at}
@@ -48,6 +49,11 @@ first-cycles (suc q) =
 pub first-cycle : (q k : ℕ) → first_day (48 * q + k) ≡ 1461 * q + first_day k
 first-cycle q k = omega (arith, first-shift q k, first-cycles q)
 
+pub first_split : (m : ℕ) → first_day m ≡ 1461 * (m / 48) + first_day (m % 48)
+first_split m =
+    let split : m ≡ 48 * (m / 48) + m % 48 = omega arith in
+    ap first_day split ∙ first-cycle (m / 48) (m % 48)
+
 -- the end of 2099
 pub first-day-end : first_day month_count ≡ day_count
 first-day-end = first-cycles 25
@@ -84,10 +90,10 @@ pub first-slot-strict : (m n : ℕ) → m < n → first_slot m < first_slot n
 first-slot-strict m n l = omega (arith, first-slot-rises m, first-slot-monotone (suc m) n l)
 
 -- no month is longer than 31 days
-pub first-day-most : (m : ℕ) → first_day m ≤ 31 * m
+pub first_day_most : (m : ℕ) → first_day m ≤ 31 * m
 unfolding first_day
-first-day-most zero = omega arith
-first-day-most (suc m) = omega (arith, first-day-most m, days-range m)
+first_day_most zero = omega arith
+first_day_most (suc m) = omega (arith, first_day_most m, days-range m)
 
 -- ---- the month of a day
 

@@ -9,9 +9,9 @@ use Rattle.laws.proofs.Bytes.{at_next}
 
 module _ (s : List ℕ) (i : ℕ) where
   -- no digit, and one
-  pub pair-none : length s ≤ i → 0 ≡ value (part s i 2)
+  pub pair_none : length s ≤ i → 0 ≡ value (part s i 2)
   unfolding value_from
-  pair-none h = rw (drop_of_length-le s h) refl
+  pair_none h = rw (drop_of_length-le s h) refl
 
   pub pair_one : i < length s → length s - i < 2 → get_or s i 0 ≡ value (part s i 2)
   unfolding value_from

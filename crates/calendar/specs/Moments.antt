@@ -1,5 +1,5 @@
 -- The month that digits begin, and the tests of a date in the code's order.
-use Rattle.std.specs.Prelude.{ℕ, ◌+◌, ◌-◌, ◌*◌, ◌≤◌, ◌<◌, Bool, true, false, cond, ◌&&◌, List, leb, ltb, Some, None, Option}
+use Rattle.std.specs.Prelude.{ℕ, ◌+◌, ◌-◌, ◌*◌, ◌≤◌, ◌<◌, Bool, cond, ◌&&◌, List, leb, ltb, Some, None, Option}
 use Rattle.rules.specs.Digits.{digits}
 use Rattle.rules.specs.Calendar.{day_length, days_of_month, first_day, month_count, month_at, exists, whole_minute}
 use Rattle.rules.specs.File.{month_begins}

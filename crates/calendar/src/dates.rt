@@ -34,6 +34,7 @@ const DAY_PLACE: usize = 6;
 const MONTH_BEGINS: [u8; 6] = [0, 1, 0, 0, 0, 0];
 
 // The number of the two digits at place i, or of those that are there.
+#[tactic(auto, using(crate::proofs::Scan::pair_none, crate::proofs::Scan::pair_one, crate::proofs::Scan::pair_is))]
 pub fn pair(s: &[u8], i: usize) -> u32
     ensures exact { result ≡ value (part s.now i 2) }
     ensures bound { result ≤ 2805 }
@@ -85,6 +86,7 @@ fn second_at(month: u16, day: u32, hour: u32, minute: u32, second: u32) -> u32
 }
 
 // The second of a date of 14 digits; None where `digits` are no date that exists.
+#[tactic(auto, unfolding(rules::specs::Calendar::moment), using(crate::proofs::DateLaws::date_is))]
 pub fn read_moment(digits: &[u8]) -> Option<u32>
     ensures { result ≡ moment digits.now }
 {
@@ -121,6 +123,7 @@ fn whole_minute(digits: &[u8]) -> [u8; 14]
 }
 
 // The slot that begins at a date of 12 digits; None where `digits` are no date that exists, or the minute is not 00 or 30.
+#[tactic(auto, unfolding(rules::specs::Calendar::start_slot), using(crate::proofs::DateLaws::whole_is))]
 pub fn start_slot(digits: &[u8]) -> Option<u32>
     ensures { result ≡ start_slot digits.now }
 {
@@ -128,16 +131,12 @@ pub fn start_slot(digits: &[u8]) -> Option<u32>
         return None;
     }
     let whole = whole_minute(digits);
-    let Some(second) = read_moment(&whole) else {
-        return None;
-    };
-    if !is_half_hour(pair(digits, 10)) {
-        return None;
-    }
-    Some(slot_of(second))
+    let second = read_moment(&whole)?;
+    is_half_hour(pair(digits, 10)).then_some(slot_of(second))
 }
 
 // The month that begins at a date of 12 digits, on day 01 at 00:00; None where `start` is no such date.
+#[tactic(auto, unfolding(crate::specs::Moments::month_begun), using(crate::proofs::DateLaws::year_is, crate::proofs::Begins::begun_is))]
 pub fn month_begun(start: &[u8]) -> Option<u16>
     ensures { result ≡ month_begun start.now }
 {

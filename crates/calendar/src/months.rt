@@ -32,6 +32,7 @@ const DAYS_BEFORE: [u16; 49] = [
 ];
 
 // The days of a month.
+#[tactic(auto, unfolding(rules::specs::Calendar::days_of_month))]
 pub fn days_of_month(month: u16) -> u16
     ensures { result ≡ days_of_month month }
 {
@@ -43,6 +44,7 @@ pub fn days_of_month(month: u16) -> u16
 }
 
 // The days before a month of four years, from their table.
+#[tactic(auto, using(crate::proofs::Search::table_is))]
 fn entry(table: &[u16; 49], month: usize) -> u32
     requires { (right_table table.now ≡ true) × (month ≤ 48) }
     ensures { result ≡ first_day month }
@@ -59,6 +61,7 @@ fn days_before(month: u32) -> u32
 }
 
 // The days before a month.
+#[tactic(auto, using(crate::proofs::Laws::first_day_most, crate::proofs::Laws::first_split))]
 pub fn first_day(month: u16) -> u32
     ensures { result ≡ first_day month }
 {
@@ -67,6 +70,7 @@ pub fn first_day(month: u16) -> u32
 }
 
 // The first slot of a month.
+#[tactic(auto, using(crate::proofs::Laws::first_day_most))]
 pub fn first_slot(month: u16) -> u32
     ensures { result ≡ first_slot month }
 {
@@ -75,6 +79,7 @@ pub fn first_slot(month: u16) -> u32
 
 // The month of a day of the first four years. No month is longer than 31 days and 48 months lack fewer than 31 days
 // of 48 such months, so the day divided by 31 is the month or the one before it.
+#[tactic(auto, using(crate::proofs::Search::guess_next, crate::proofs::Search::guess_here))]
 fn month_of_cycle(day: u32) -> u32
     requires { day < 1461 }
     ensures { Within 48 day result }
@@ -88,6 +93,7 @@ fn month_of_cycle(day: u32) -> u32
 }
 
 // The month of a day; `MONTH_COUNT` from the end of 2099 on.
+#[tactic(auto, using(crate::proofs::Laws::day_past, crate::proofs::Search::day_is))]
 fn month_of_day(day: u32) -> u16
     ensures { result ≡ month_of_day day }
 {

@@ -8,16 +8,11 @@ use native.Mathlib.Nat.{add-zero, add-suc, suc-add, zero-add}
 use native.Mathlib.Omega.{arith}
 use lib.Dec.{leb}
 use lib.ListN.{length, take, drop, set, length-take, take-append-drop, drop_of_length-le}
-use lib.Seq.{take_all, drop-drop, set_out, sets, sets-eq, length-sets}
+use lib.Seq.{drop-drop, set_out, sets, sets-eq, length-sets}
 use borrow.Author.Tests.{le-leb, lt-leb, leb-true, leb-false}
 use Rattle.rules.specs.Writer.{fitting, written_of, buffer_after}
 use Rattle.rules.specs.declared.Cause.{Cause}
 use Rattle.digits.specs.Placed.{placed}
-
--- ---- a copy: what stands below i is copied
-
-pub copy-end : (to from : List ℕ) (i : ℕ) → length from ≤ i → length to ≡ length from → take i to ≡ take i from → to ≡ from
-copy-end to from i h e t = rw (take_all i to (omega arith), take_all i from h) at t
 
 -- ---- a run of stores
 
@@ -55,9 +50,9 @@ module _ (l a : List ℕ) (at n : ℕ) (h : at < length l) (n≡ : n ≡ min (le
           sets-past (drop n a) (sets l at (take n a)) (at + length (take n a)) (omega (arith, taken))
 
   -- a part of the buffer, from `at` on, is lent and comes back as those bytes
-  pub placed-part : (b : List ℕ) → b ≡ take n a → take at l ++ (b ++ drop (at + n - at) (drop at l)) ≡ placed l at a
+  pub placed_part : (b : List ℕ) → b ≡ take n a → take at l ++ (b ++ drop (at + n - at) (drop at l)) ≡ placed l at a
   unfolding placed
-  placed-part b b≡ =
+  placed_part b b≡ =
       let long = taken in
       let to : at + (at + n - at) ≡ at + length (take n a) = omega arith in
       let room : at + length (take n a) ≤ length l = omega arith in
@@ -68,9 +63,9 @@ module _ (l a : List ℕ) (at n : ℕ) (h : at < length l) (n≡ : n ≡ min (le
       ∙ ap (sets l at) (take-append-drop n a))
 
 -- a buffer of their length becomes those bytes
-pub placed-all : (l a : List ℕ) → length l ≡ length a → placed l 0 a ≡ a
+pub placed_all : (l a : List ℕ) → length l ≡ length a → placed l 0 a ≡ a
 unfolding placed
-placed-all l a e =
+placed_all l a e =
     let end : length l ≤ length a = omega arith in
     sets-eq a l 0 (omega arith) ∙ rw (zero-add (length a), drop_of_length-le l end) (append-nil a)
 
@@ -84,12 +79,13 @@ unfolding placed
 placed_one l at x = refl
 
 -- some bytes, and then others
-pub placed-next : (l a b : List ℕ) (at : ℕ) {m : List ℕ} {mid : ℕ} → m ≡ placed l at a → mid ≡ at + length a → placed m mid b ≡ placed l at (a ++ b)
+pub placed-next : (l a b : List ℕ) (at : ℕ) {m : List ℕ} {mid : ℕ} → m ≡ placed l at a → mid ≡ at + length a
+    → placed m mid b ≡ placed l at (a ++ b)
 unfolding placed
 placed-next l a b at m≡ mid≡ = rw (m≡, mid≡) (sym (sets-append a b l at))
 
 -- from place 0 on
-placed_first : (l b : List ℕ) → length b ≤ length l → placed l 0 b ≡ b ++ drop (length b) l
+pub placed_first : (l b : List ℕ) → length b ≤ length l → placed l 0 b ≡ b ++ drop (length b) l
 unfolding placed
 placed_first l b h = sets-eq b l 0 (omega arith) ∙ rw zero-add refl
 

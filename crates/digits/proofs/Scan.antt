@@ -25,7 +25,8 @@ max-at-most a b m = go (leb a m) refl (leb b m) refl
     go false e t f = let h = leb-false a m e in lt-leb (max a b) m (omega arith)
 
 -- ---- a test of each byte, for any test: the flag b says that the bytes below i passed
-module _ (test : ℕ → Bool) (all : List ℕ → Bool) (none : all [] ≡ true) (more : (x : ℕ) (xs : List ℕ) → all (x ∷ xs) ≡ (test x && all xs)) where
+module _ (test : ℕ → Bool) (all : List ℕ → Bool) (none : all [] ≡ true)
+    (more : (x : ℕ) (xs : List ℕ) → all (x ∷ xs) ≡ (test x && all xs)) where
   pub all-step : (s : List ℕ) (i : ℕ) (b : Bool) → i < length s → (b && all (drop i s)) ≡ ((b && test (get_or s i 0)) && all (drop (i + 1) s))
   all-step s i b h =
       rw (at_next s i h, more (get_or s i 0) (drop (i + 1) s)) (sym (and_assoc b (test (get_or s i 0)) (all (drop (i + 1) s))))
@@ -45,22 +46,22 @@ module _ (s : List ℕ) (i v m : ℕ) where
   greatest_step h = worst-step (λ x. leb x m) (all_at_most m) refl (λ x xs. refl) (λ x. x) m s i v h refl
 
 module _ (s : List ℕ) (i : ℕ) (b : Bool) where
-  pub flag-step : (m : ℕ) → i < length s → (b && all_at_most m (drop i s)) ≡ ((b && leb (get_or s i 0) m) && all_at_most m (drop (i + 1) s))
+  pub flag_step : (m : ℕ) → i < length s → (b && all_at_most m (drop i s)) ≡ ((b && leb (get_or s i 0) m) && all_at_most m (drop (i + 1) s))
   unfolding all_at_most
-  flag-step m = all-step (λ x. leb x m) (all_at_most m) refl (λ x xs. refl) s i b
+  flag_step m = all-step (λ x. leb x m) (all_at_most m) refl (λ x xs. refl) s i b
 
-  pub flag-end : (m : ℕ) → length s ≤ i → (b && all_at_most m (drop i s)) ≡ b
+  pub flag_end : (m : ℕ) → length s ≤ i → (b && all_at_most m (drop i s)) ≡ b
   unfolding all_at_most
-  flag-end m = all_end (λ x. leb x m) (all_at_most m) refl (λ x xs. refl) s i b
+  flag_end m = all_end (λ x. leb x m) (all_at_most m) refl (λ x xs. refl) s i b
 
-  pub ascii-step : i < length s
+  pub ascii_step : i < length s
       → (b && all_ascii (drop i s)) ≡ ((b && (leb 48 (get_or s i 0) && leb (get_or s i 0) 57)) && all_ascii (drop (i + 1) s))
   unfolding all_ascii
-  ascii-step = all-step (λ x. leb 48 x && leb x 57) all_ascii refl (λ x xs. refl) s i b
+  ascii_step = all-step (λ x. leb 48 x && leb x 57) all_ascii refl (λ x xs. refl) s i b
 
-  pub ascii-end : length s ≤ i → (b && all_ascii (drop i s)) ≡ b
+  pub ascii_end : length s ≤ i → (b && all_ascii (drop i s)) ≡ b
   unfolding all_ascii
-  ascii-end = all_end (λ x. leb 48 x && leb x 57) all_ascii refl (λ x xs. refl) s i b
+  ascii_end = all_end (λ x. leb 48 x && leb x 57) all_ascii refl (λ x xs. refl) s i b
 
 -- two lists: the first byte of each, and their ends
 module _ (b : Bool) {s t : List ℕ} where
@@ -138,5 +139,11 @@ remainder-next {s} a t e h =
     let rest : length s - length s % 256 ≡ 256 + (length t - length t % 256) = omega arith in
     sym (rw rest (sym (drop-drop (length t - length t % 256) 256 s) ∙ ap (drop (length t - length t % 256)) (ap (drop 256) e ∙ drop_at a t 256 h)))
 
-pub remainder-end : (s : List ℕ) → length s < 256 → remainder s ≡ s
-remainder-end s h = let none : length s - length s % 256 ≡ 0 = omega arith in rw none refl
+-- a stretch's sum: its byte at i, and the rest
+pub sum_step : (s : List ℕ) (i : ℕ) → i < length s → sum (drop i s) ≡ get_or s i 0 + sum (drop (i + 1) s)
+unfolding sum
+sum_step s i h = rw (at_next s i h) refl
+
+pub sum_end : (s : List ℕ) (i : ℕ) → length s ≤ i → sum (drop i s) ≡ 0
+unfolding sum
+sum_end s i h = rw (drop_of_length-le s h) refl

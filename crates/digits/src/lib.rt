@@ -1,4 +1,5 @@
-// Bytes as digits: whether they are some, the number that they stand for, sums and comparisons; and bytes put into a buffer. Scans keep a flag or the greatest byte, and do not leave early; the number of a few digits does.
+// Bytes as digits: whether they are some, the number that they stand for, sums and comparisons; and bytes put into a buffer. Scans keep a flag or
+// the greatest byte, and do not leave early; the number of a few digits does.
 #![tactic(auto)]
 
 mod buffer;
@@ -16,7 +17,7 @@ const MOST_DIGITS: usize = 14;
 const HIGHEST_DIGIT: u64 = 9;
 
 // Whether every byte of `s` is at most `most`: the greatest is, which takes one vector operation for 16 bytes.
-#[tactic(auto, using(crate::proofs::Scan::greatest_step))]
+#[tactic(auto, using(crate::proofs::Scan::greatest_step, crate::proofs::Scan::flag_end))]
 pub fn all_at_most(s: &[u8], most: u8) -> bool
     ensures { result ≡ all_at_most most s.now }
 {
@@ -28,6 +29,7 @@ pub fn all_at_most(s: &[u8], most: u8) -> bool
 }
 
 // The same by a flag, which takes less for each byte of a few, as a date's, that fill no vector.
+#[tactic(auto, using(crate::proofs::Scan::flag_step, crate::proofs::Scan::flag_end))]
 pub fn few_at_most(s: &[u8], most: u8) -> bool
     ensures { result ≡ all_at_most most s.now }
 {
@@ -39,17 +41,21 @@ pub fn few_at_most(s: &[u8], most: u8) -> bool
 }
 
 // Whether every byte of `s` is an ASCII digit.
+#[tactic(auto, using(crate::proofs::Scan::ascii_step, crate::proofs::Scan::ascii_end))]
 pub fn all_ascii(s: &[u8]) -> bool
     ensures { result ≡ all_ascii s.now }
 {
     let mut all = true;
     for &x in s {
-        all &= (b'0' <= x) & (x <= b'9');
+        all &= x.is_ascii_digit();
     }
     all
 }
 
 // Whether `a` and `b` are the same bytes.
+// By a flag: the library's `==` was tried, and where the length is known when compiled it calls a comparison of groups. For the 26 bytes of a
+// plant ID, two vectors here, that takes 5.5 ns in the place of 2.3.
+#[tactic(auto, using(crate::proofs::Scan::same_length))]
 pub fn same(a: &[u8], b: &[u8]) -> bool
     ensures { result ≡ same_bytes a.now b.now }
 {
@@ -64,6 +70,7 @@ pub fn same(a: &[u8], b: &[u8]) -> bool
 }
 
 // The number that at most 14 digits stand for, the highest first: the byte ZERO is the digit 0, and the nine after it are the others.
+#[tactic(auto, unfolding(crate::specs::Decimal::number_from))]
 fn number_from<const ZERO: u8>(s: &[u8]) -> Option<u64>
     requires { ZERO ≤ 246 }
     ensures { result ≡ number_from ZERO s.now }
@@ -83,6 +90,7 @@ fn number_from<const ZERO: u8>(s: &[u8]) -> Option<u64>
 }
 
 // The number that at most 14 bytes of value 0 to 9 stand for.
+#[tactic(auto, using(crate::proofs::Scan::digits_from))]
 pub fn number(s: &[u8]) -> Option<u64>
     ensures { result ≡ decimal_of s.now }
 {
@@ -90,6 +98,7 @@ pub fn number(s: &[u8]) -> Option<u64>
 }
 
 // The number that at most 14 ASCII digits stand for.
+#[tactic(auto, using(crate::proofs::Scan::ascii_from))]
 pub fn ascii_number(s: &[u8]) -> Option<u64>
     ensures { result ≡ ascii_of s.now }
 {
@@ -100,6 +109,7 @@ pub fn ascii_number(s: &[u8]) -> Option<u64>
 const STRETCH: usize = 256;
 
 // The sum of a stretch, in 16 bits: twice as many bytes are added at once as in 32.
+#[tactic(auto, using(crate::proofs::Scan::sum_step, crate::proofs::Scan::sum_end))]
 fn stretch_sum(s: &[u8]) -> u16
     requires { length s.now ≤ 256 }
     ensures { result ≡ sum s.now }
@@ -112,6 +122,7 @@ fn stretch_sum(s: &[u8]) -> u16
 }
 
 // The sum of the bytes of `s`, of which a record has at most 99,999. Whole stretches come first: their length is known when they are compiled.
+#[tactic(auto, unfolding(crate::specs::Decimal::rates_sum))]
 pub fn sum(s: &[u8]) -> u32
     ensures { result ≡ rates_sum s.now }
 {

@@ -1,35 +1,24 @@
--- The form of an error file, what it tells of the file, and the answers that follow from it.
-use Rattle.std.specs.Prelude.{Ok, Err}
-use Prim.Native.Nat.{ℕ, ◌-◌, ◌≤◌, ◌<◌}
-use mathlib.Core.Path.{◌≡◌, ◌∙◌, refl, sym}
-use mathlib.Core.Bool.{Bool, true, false, ◌&&◌, and-false, and-true}
+-- The form of an error file, and what it tells of the file.
+use Prim.Native.Nat.{ℕ, ◌-◌, ◌≤◌}
+use mathlib.Core.Path.{◌≡◌, ◌∙◌, sym}
+use mathlib.Core.Bool.{Bool, true, ◌&&◌, and-true}
 use mathlib.Core.List.{List}
 use lib.ListN.{length, get_or, take, drop}
-use borrow.Author.Tests.{le-leb, lt-leb, leb-true}
-use Rattle.rules.specs.ErrorFile.{is_error_file, utf8, error_code, code_of, error_text}
-use Rattle.rules.specs.declared.Cause.{Cause}
+use borrow.Author.Tests.{le-leb, leb-true}
+use Rattle.rules.specs.ErrorFile.{is_error_file, utf8}
 use Rattle.error_file.specs.Head.{has_head, Headed}
-use Rattle.error_file.specs.Code.{code_in}
 use Rattle.laws.proofs.Tests.{both}
 use Rattle.laws.proofs.Bytes.{part-rest}
 use Rattle.error_file.proofs.Head.{three, is_digit, zero-or-one}
 
 module _ (s : List ℕ) where
-  -- ---- what `is_error_file` answers at each of its returns
-  pub too_short : length s < 6 → false ≡ is_error_file s
-  unfolding is_error_file
-  too_short h = simp (lt-leb 6 (length s) h)
-
-  pub too_long : 384 < length s - 6 → false ≡ is_error_file s
-  unfolding is_error_file
-  too_long h = simp (lt-leb (length s - 6) 384 h, and-false)
-
+  -- what `is_error_file` computes
   pub checked : {h u : Bool} → 6 ≤ length s → length s - 6 ≤ 384 → h ≡ has_head s → u ≡ utf8 (take (length s - 6) (drop 6 s))
       → (h && u) ≡ is_error_file s
   unfolding is_error_file has_head
   checked room few h≡ u≡ = rw (h≡, u≡, (part-rest s 6)) (simp (le-leb 6 (length s) room, le-leb (length s - 6) 384 few, and-true))
 
-  -- ---- what is known of a file that keeps its form
+  -- what is known of a file that keeps its form
   pub headed : true ≡ is_error_file s → Headed s
   unfolding is_error_file
   headed e =
@@ -46,20 +35,3 @@ module _ (s : List ℕ) where
         third = is_digit (get_or s 3 0) others.1;
         fourth = is_digit (get_or s 4 0) last.1;
       }
-
-  -- ---- the answers
-  pub code-refused : false ≡ is_error_file s → Err Cause.ErrorFile ≡ code_of (error_code s)
-  unfolding error_code
-  code-refused e = rw (sym e) refl
-
-  pub code-given : {n : ℕ} → true ≡ is_error_file s → n ≡ code_in s → Ok n ≡ code_of (error_code s)
-  unfolding error_code code_in
-  code-given e n≡ = rw (sym e, n≡) refl
-
-  pub text-refused : false ≡ is_error_file s → take 0 (drop 0 s) ≡ error_text s
-  unfolding error_text
-  text-refused e = rw (sym e) refl
-
-  pub text-given : true ≡ is_error_file s → take (length s - 6) (drop 6 s) ≡ error_text s
-  unfolding error_text
-  text-given e = rw (sym e) (part-rest s 6)

@@ -1,7 +1,7 @@
 -- The six bytes before the text: their tests byte by byte, and the code they hold.
 use Prim.Native.Nat.{ℕ, suc, ◌+◌, ◌-◌, ◌*◌, ◌≤◌, ◌<◌}
 use mathlib.Core.Path.{◌≡◌, ◌∙◌, refl, ap}
-use mathlib.Core.Bool.{Bool, true, ◌&&◌, ◌||◌, and-true, and_assoc}
+use mathlib.Core.Bool.{true, ◌&&◌, ◌||◌, and-true, and_assoc}
 use mathlib.Core.List.{List, [], ◌∷◌}
 use mathlib.Core.Logic.{⊎_elim}
 use native.Mathlib.Omega.{arith}
@@ -11,7 +11,8 @@ use lib.Seq.{drop-cons}
 use borrow.Author.Tests.{leb-true, eqb-true}
 use Rattle.rules.specs.Digits.{part, all_ascii, value_from}
 use Rattle.laws.proofs.Tests.{both, either}
-use Rattle.error_file.specs.Head.{ascii_digit, Digit, has_head}
+use Rattle.std.specs.Char.{is_ascii_digit}
+use Rattle.error_file.specs.Head.{Digit}
 use Rattle.error_file.specs.Code.{code_in}
 
 -- a part, its first byte taken off
@@ -22,21 +23,16 @@ module _ (s : List ℕ) (room : 6 ≤ length s) where
   serial-part : part s 2 3 ≡ get_or s 2 0 ∷ get_or s 3 0 ∷ get_or s 4 0 ∷ []
   serial-part =
       part-cons s 2 2 (omega arith)
-      ∙ ap (λ (l : List ℕ). get_or s 2 0 ∷ l) (part-cons s 3 1 (omega arith) ∙ ap (λ (l : List ℕ). get_or s 3 0 ∷ l) (part-cons s 4 0 (omega arith)))
+      ∙ ap (λ (l : List ℕ). get_or s 2 0 ∷ l)
+      (part-cons s 3 1 (omega arith) ∙ ap (λ (l : List ℕ). get_or s 3 0 ∷ l) (part-cons s 4 0 (omega arith)))
 
   code-part : part s 1 4 ≡ get_or s 1 0 ∷ get_or s 2 0 ∷ get_or s 3 0 ∷ get_or s 4 0 ∷ []
   code-part = part-cons s 1 3 (omega arith) ∙ ap (λ (l : List ℕ). get_or s 1 0 ∷ l) serial-part
 
   -- the three digits, tested one by one
-  pub three : all_ascii (part s 2 3) ≡ (ascii_digit (get_or s 2 0) && ascii_digit (get_or s 3 0) && ascii_digit (get_or s 4 0))
+  pub three : all_ascii (part s 2 3) ≡ (is_ascii_digit (get_or s 2 0) && is_ascii_digit (get_or s 3 0) && is_ascii_digit (get_or s 4 0))
   unfolding all_ascii
   three = rw serial-part (simp (and-true, and_assoc))
-
-  -- what `has_head` computes
-  pub head-is : {a b d : Bool} → a ≡ ascii_digit (get_or s 2 0) → b ≡ ascii_digit (get_or s 3 0) → d ≡ ascii_digit (get_or s 4 0)
-      → (eqb (get_or s 0 0) 69 && (eqb (get_or s 1 0) 48 || eqb (get_or s 1 0) 49) && (a && b && d) && eqb (get_or s 5 0) 32) ≡ has_head s
-  unfolding has_head
-  head-is a≡ b≡ d≡ = rw (a≡, b≡, d≡, three) refl
 
   -- what `code_in` computes
   pub code_is : {a b d e : ℕ} → a ≡ get_or s 1 0 - 48 → b ≡ get_or s 2 0 - 48 → d ≡ get_or s 3 0 - 48 → e ≡ get_or s 4 0 - 48
@@ -45,7 +41,7 @@ module _ (s : List ℕ) (room : 6 ≤ length s) where
   code_is a≡ b≡ d≡ e≡ = rw code-part (omega arith)
 
 -- ---- what a passed test says
-pub is_digit : (x : ℕ) → ascii_digit x ≡ true → Digit x
+pub is_digit : (x : ℕ) → is_ascii_digit x ≡ true → Digit x
 is_digit x e = let b = both (leb 48 x) (leb x 57) e in record { low = leb-true _ _ b.0; high = leb-true _ _ b.1 }
 
 pub zero-or-one : (x : ℕ) → (eqb x 48 || eqb x 49) ≡ true → Digit x

@@ -1,11 +1,8 @@
 -- The six bytes before the text (01, Beside the unit).
-use Rattle.std.specs.Prelude.{ℕ, ◌≤◌, Bool, ◌&&◌, ◌||◌, List, length, get_or, leb, eqb}
+use Rattle.std.specs.Prelude.{ℕ, ◌≤◌, Bool, ◌&&◌, ◌||◌, List, length, get_or, eqb}
 use Rattle.rules.specs.Digits.{part, all_ascii}
 
--- `0` to `9`, as a test and as a fact
-abbrev pub ascii_digit : ℕ → Bool
-ascii_digit x = leb 48 x && leb x 57
-
+-- `0` to `9`
 pub record Digit (x : ℕ) : Type 0 where
   pub low : 48 ≤ x
   pub high : x ≤ 57

@@ -3,7 +3,7 @@
 
 ghost use Rattle.std.specs.Prelude.{◌≡◌, ◌-◌, ◌≤◌, length};
 ghost use Rattle.rules.specs.ErrorFile.{is_error_file, error_code, code_of, error_text};
-ghost use Rattle.error_file.specs.Head.{ascii_digit, Digit, has_head, Headed};
+ghost use Rattle.error_file.specs.Head.{Digit, has_head, Headed};
 ghost use Rattle.error_file.specs.Code.{code_in};
 
 use rules::Cause;
@@ -16,24 +16,19 @@ const HEAD_LENGTH: usize = 6;
 // 'then 0 to 384 bytes'.
 const MOST_TEXT: usize = 384;
 
-// Whether x is `0` to `9`.
-fn is_ascii_digit(x: u8) -> bool
-    ensures { result ≡ ascii_digit x }
-{
-    (b'0' <= x) & (x <= b'9')
-}
-
 // Whether the six bytes before the text are right: after the `E` the place of the error and its serial number (002, 6.2).
+#[tactic(auto, unfolding(crate::specs::Head::has_head), using(crate::proofs::Head::three))]
 fn has_head(file: &[u8]) -> bool
     requires { 6 ≤ length file.now }
     ensures { result ≡ has_head file.now }
 {
     let place = (file[1] == b'0') | (file[1] == b'1');
-    let serial = is_ascii_digit(file[2]) & is_ascii_digit(file[3]) & is_ascii_digit(file[4]);
+    let serial = file[2].is_ascii_digit() & file[3].is_ascii_digit() & file[4].is_ascii_digit();
     (file[0] == b'E') & place & serial & (file[5] == b' ')
 }
 
 // Whether the file keeps its form. Its length comes first: no more than 384 bytes of text are looked at.
+#[tactic(auto, unfolding(rules::specs::ErrorFile::is_error_file, crate::specs::Head::has_head), using(crate::proofs::File::checked))]
 fn is_error_file(file: &[u8]) -> bool
     ensures { result ≡ is_error_file file.now }
 {
@@ -55,6 +50,7 @@ fn digit(x: u8) -> u16
 }
 
 // The four digits after the `E` as a number.
+#[tactic(auto, unfolding(crate::specs::Code::code_in), using(crate::proofs::Head::code_is))]
 fn code_in(file: &[u8]) -> u16
     requires { Headed file.now }
     ensures { result ≡ code_in file.now }
@@ -63,6 +59,7 @@ fn code_in(file: &[u8]) -> u16
 }
 
 // The code of an error file, or cause 16 where the file breaks its form.
+#[tactic(auto, unfolding(rules::specs::ErrorFile::error_code, crate::specs::Code::code_in), using(crate::proofs::File::headed))]
 pub fn error_code(file: &[u8]) -> Result<u16, Cause>
     ensures { result ≡ code_of (error_code file.now) }
 {
@@ -73,6 +70,7 @@ pub fn error_code(file: &[u8]) -> Result<u16, Cause>
 }
 
 // 'the message text is handed back as that part of the file'; the empty part where the file breaks its form.
+#[tactic(auto, unfolding(rules::specs::ErrorFile::error_text), using(crate::proofs::File::headed))]
 pub fn error_text(file: &[u8]) -> &[u8]
     ensures { result.now ≡ error_text file.now }
 {

@@ -19,6 +19,7 @@ fn is_lead(x: u8) -> bool
 }
 
 // How many bytes the lead byte x asks for.
+#[tactic(auto, unfolding(rules::specs::ErrorFile::more))]
 fn more_after(x: u8) -> u8
     ensures { result ≡ more x }
 {
@@ -35,6 +36,7 @@ fn more_after(x: u8) -> u8
 }
 
 // The lower bound of the byte after the lead byte x: an overlong form lies below it. Beside the upper bound, since a table of both is no plainer.
+#[tactic(auto, unfolding(rules::specs::ErrorFile::least))]
 fn least_after(x: u8) -> u8
     ensures { result ≡ least x }
 {
@@ -48,6 +50,7 @@ fn least_after(x: u8) -> u8
 }
 
 // The upper bound of the byte after the lead byte x: surrogates, and what is above U+10FFFF, lie above it.
+#[tactic(auto, unfolding(rules::specs::ErrorFile::most))]
 fn most_after(x: u8) -> u8
     ensures { result ≡ most x }
 {
@@ -61,6 +64,7 @@ fn most_after(x: u8) -> u8
 }
 
 // The walk after the byte x; none where x may not come next, so that the bytes are no UTF-8.
+#[tactic(auto, unfolding(rules::specs::ErrorFile::utf8_from), using(crate::proofs::Text::walked))]
 fn step(walk: Walk, x: u8) -> Option<Walk>
     ensures { (xs : List ℕ) → rest (Some walk) (x ∷ xs) ≡ rest result xs }
 {
@@ -80,6 +84,7 @@ fn step(walk: Walk, x: u8) -> Option<Walk>
 
 // Whether the bytes are valid UTF-8.
 // `std::str::from_utf8` is no plainer: its contract speaks of encoded characters, and not of the RFC's bounds, which `utf8` states.
+#[tactic(auto, unfolding(rules::specs::ErrorFile::utf8), using(crate::proofs::Text::at_end))]
 pub fn is_utf8(s: &[u8]) -> bool
     ensures { result ≡ utf8 s.now }
 {

@@ -1,6 +1,6 @@
 -- What a caller may take from a body whose form is right: where its records stand, how many they are, and how many rates they have.
 use Rattle.std.specs.Option.{option_map}
-use Rattle.std.specs.Prelude.{None, Some, map, slice_get}
+use Rattle.std.specs.Prelude.{None, Some, slice_get}
 use Prim.Native.Nat.{ℕ, zero, suc, ◌+◌, ◌*◌, ◌≤◌, ◌<◌}
 use mathlib.Core.Path.{◌≡◌, ◌∙◌, refl, ap}
 use mathlib.Core.Bool.{true, Bool, false, cond, ◌&&◌}

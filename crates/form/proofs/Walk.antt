@@ -129,11 +129,6 @@ module _ (f : Format) (t : List ℕ) where
   shape_stop zero h e = absurd (omega arith)
   shape_stop (suc k) h e = rw e refl
 
-  pub records-end : (left : ℕ) → left ≤ 0 → records_from f left t ≡ []
-  unfolding records_from
-  records-end zero h = refl
-  records-end (suc k) h = absurd (omega arith)
-
   pub records-step : (left : ℕ) {k z : ℕ} → left ≡ suc k → z ≡ size_of f t
       → records_from f left t ≡ record_at f t ∷ records_from f k (take (length t - z) (drop z t))
   unfolding records_from
@@ -144,10 +139,6 @@ module _ (f : Format) (t : List ℕ) where
   unfolding shaped
   shaped-first zero h e = absurd (omega arith)
   shaped-first (suc k) h e = (both (record_shape f t) (shaped f k (drop (size_of f t) t)) e).0
-
-  pub shaped-rest : (left : ℕ) {k z : ℕ} → left ≡ suc k → z ≡ size_of f t → shaped f left t ≡ true
-      → shaped f k (take (length t - z) (drop z t)) ≡ true
-  shaped-rest left {k} {z} left≡ z≡ e = (both (record_shape f t) (shaped f k (take (length t - z) (drop z t))) (sym (shape-step left left≡ z≡ refl) ∙ e)).1
 
   pub whole-first : (left : ℕ) → 0 < left → shaped f left t ≡ true → Whole f t
   whole-first left h e = whole f t (shaped-first left h e)

@@ -37,7 +37,8 @@ fn record_stands(format: Format, rates: usize, size: usize, s: &[u8]) -> bool
         & digits::all_at_most(&s[tail..size], layout::HIGHEST_DIGIT)
 }
 
-// Whether `s` is the records of the format, and nothing after them.
+// Whether `s` is the records of the format, and nothing after them. A walk of its own: over layout's records the compiler makes code of it that
+// takes from 1.6 to 5 times as long.
 pub fn records_stand(format: Format, s: &[u8]) -> bool
     ensures { result ≡ shaped format (count_of format) s.now }
 {
@@ -55,6 +56,7 @@ pub fn records_stand(format: Format, s: &[u8]) -> bool
 }
 
 // Whether `s` is what follows a registration's count.
+#[tactic(auto, unfolding(crate::specs::Walk::registered))]
 pub fn registration_stands(s: &[u8]) -> bool
     ensures { result ≡ registered s.now }
 {

@@ -1,16 +1,19 @@
 -- Laws of a number's bytes as they are counted and put.
+use Rattle.std.specs.Prelude.{Option, None, Some}
 use Prim.Native.Nat.{ℕ, zero, suc, ◌+◌, ◌-◌, ◌/◌, ◌%◌, ◌^◌, ◌≤◌, ◌<◌}
-use mathlib.Core.Path.{◌≡◌, refl, sym, ap}
+use mathlib.Core.Path.{◌≡◌, ◌∙◌, refl, sym, ap}
 use mathlib.Core.Bool.{Bool, true, false, cond}
 use mathlib.Core.List.{List, [], ◌∷◌}
-use native.Mathlib.Nat.{add-zero}
 use native.Mathlib.Numerals.{add-one}
 use native.Mathlib.Omega.{arith}
-use borrow.Author.Tests.{le-leb, lt-leb}
+use borrow.Author.Tests.{le-leb, lt-leb, ltb-true, ltb-false}
+use lib.Dec.{ltb}
 use lib.ListN.{length, set}
 use lib.Seq.{sets}
 use Rattle.rules.specs.Groups.{groups, groups_in}
-use Rattle.groups.specs.Placed.{room, bytes_after, place_after}
+use Rattle.laws.proofs.Options.{some-injective}
+use Rattle.laws.proofs.Tests.{no-some}
+use Rattle.groups.specs.Placed.{room, size_of, bytes_after, place_after}
 use Rattle.groups.proofs.Steps.{groups-in, no-groups, last-group, next-group, fewer}
 
 -- ---- how many there are
@@ -21,36 +24,42 @@ count-one k n h = rw (last-group k n h) refl
 count-more : (k n m : ℕ) → 128 ≤ n → length (groups_in k (n / 128)) ≡ m → length (groups_in (suc k) n) ≡ suc m
 count-more k n m h e = rw (next-group k n h) (ap suc e)
 
+-- a list with an element says its length
+counted : (s : List ℕ) (k : ℕ) → length s ≡ suc k → Some (suc k) ≡ size_of s
+counted [] k e = absurd (omega arith)
+counted (b ∷ s) k e = ap Some (sym e)
+
 module _ (n : ℕ) where
-  pub one_byte : n < 2 ^ 7 → 1 ≡ length (groups n)
-  one_byte h = rw (groups-in n (omega arith)) (sym (count-one 4 n h))
+  pub one_byte : n < 2 ^ 7 → Some 1 ≡ size_of (groups n)
+  one_byte h = counted (groups n) 0 (rw (groups-in n (omega arith)) (count-one 4 n h))
 
-  pub two_bytes : 2 ^ 7 ≤ n → n < 2 ^ 14 → 2 ≡ length (groups n)
-  two_bytes l h = rw (groups-in n (omega arith)) (sym (count-more 4 n 1 l (count-one 3 (n / 128) (omega arith))))
+  pub two_bytes : 2 ^ 7 ≤ n → n < 2 ^ 14 → Some 2 ≡ size_of (groups n)
+  two_bytes l h = counted (groups n) 1 (rw (groups-in n (omega arith)) (count-more 4 n 1 l (count-one 3 (n / 128) (omega arith))))
 
-  pub three-bytes : 2 ^ 14 ≤ n → n < 2 ^ 21 → 3 ≡ length (groups n)
+  pub three-bytes : 2 ^ 14 ≤ n → n < 2 ^ 21 → Some 3 ≡ size_of (groups n)
   three-bytes l h =
-      rw (groups-in n (omega arith))
-      (sym (count-more 4 n 2 (omega arith) (count-more 3 (n / 128) 1 (omega arith) (count-one 2 (n / 128 / 128) (omega arith)))))
+      counted (groups n) 2
+      (rw (groups-in n (omega arith))
+      (count-more 4 n 2 (omega arith) (count-more 3 (n / 128) 1 (omega arith) (count-one 2 (n / 128 / 128) (omega arith)))))
 
-  pub four_bytes : 2 ^ 21 ≤ n → n < 2 ^ 28 → 4 ≡ length (groups n)
+  pub four_bytes : 2 ^ 21 ≤ n → n < 2 ^ 28 → Some 4 ≡ size_of (groups n)
   four_bytes l h =
-      rw (groups-in n (omega arith))
-      (sym
+      counted (groups n) 3
+      (rw (groups-in n (omega arith))
       (count-more 4 n 3 (omega arith)
       (count-more 3 (n / 128) 2 (omega arith)
       (count-more 2 (n / 128 / 128) 1 (omega arith) (count-one 1 (n / 128 / 128 / 128) (omega arith))))))
 
-  pub five-bytes : 2 ^ 28 ≤ n → n < 2 ^ 35 → 5 ≡ length (groups n)
+  pub five-bytes : 2 ^ 28 ≤ n → n < 2 ^ 35 → Some 5 ≡ size_of (groups n)
   five-bytes l h =
-      rw (groups-in n h)
-      (sym
+      counted (groups n) 4
+      (rw (groups-in n h)
       (count-more 4 n 4 (omega arith)
       (count-more 3 (n / 128) 3 (omega arith)
       (count-more 2 (n / 128 / 128) 2 (omega arith)
       (count-more 1 (n / 128 / 128 / 128) 1 (omega arith) (count-one 0 (n / 128 / 128 / 128 / 128) (omega arith)))))))
 
-  pub no_bytes : 2 ^ 35 ≤ n → 0 ≡ length (groups n)
+  pub no_bytes : 2 ^ 35 ≤ n → None ≡ size_of (groups n)
   no_bytes h = rw (no-groups n h) refl
 
 -- ---- one after the other, the group at place i of those from place `at` on
@@ -94,31 +103,42 @@ module _ (bytes out : List ℕ) (at : ℕ) where
   unfolding bytes_after
   bytes_fit h = rw (le-leb (at + length bytes) (length out) h) refl
 
-  pub place-fits : at + length bytes ≤ length out → place_after bytes out at ≡ at + length bytes
-  unfolding place_after
-  place-fits h = rw (le-leb (at + length bytes) (length out) h) refl
-
   pub bytes-stay : length out < at + length bytes → bytes_after bytes out at ≡ out
   unfolding bytes_after
   bytes-stay h = rw (lt-leb (at + length bytes) (length out) h) refl
 
-  pub place-stays : length out < at + length bytes → place_after bytes out at ≡ at
-  unfolding place_after
-  place-stays h = rw (lt-leb (at + length bytes) (length out) h) refl
+-- what `put` answers, and what it leaves
+abbrev pub Put : List ℕ → List ℕ → ℕ → Option ℕ → List ℕ → Type 0
+Put bytes out at next after = (next ≡ place_after bytes out at) × (after ≡ bytes_after bytes out at)
 
-module _ (n : ℕ) (out : List ℕ) (at : ℕ) (h : 2 ^ 35 ≤ n) where
-  pub none-put : bytes_after (groups n) out at ≡ out
-  unfolding bytes_after
-  none-put = rw (no-groups n h) (go (room [] out at))
-    where
-      go : (t : Bool) → cond t out out ≡ out
-      go true = refl
-      go false = refl
+pub none-put : (bytes out : List ℕ) (at : ℕ) → None ≡ size_of bytes → Put bytes out at None out
+unfolding place_after bytes_after
+none-put [] out at e = (refl, go (room [] out at))
+  where
+    go : (t : Bool) → out ≡ cond t out out
+    go true = refl
+    go false = refl
+none-put (b ∷ bytes) out at e = no-some e
 
-  pub none_passed : place_after (groups n) out at ≡ at
-  unfolding place_after
-  none_passed = rw (no-groups n h) (go (room [] out at))
-    where
-      go : (t : Bool) → cond t (at + 0) at ≡ at
-      go true = add-zero at
-      go false = refl
+pub short-put : (bytes out : List ℕ) (at : ℕ) → length out < at + length bytes → Put bytes out at None out
+unfolding place_after
+short-put [] out at h = (refl, sym (bytes-stay [] out at h))
+short-put (b ∷ bytes) out at h = (rw (lt-leb (at + length (b ∷ bytes)) (length out) h) refl, sym (bytes-stay (b ∷ bytes) out at h))
+
+pub all-put : (bytes out : List ℕ) (at : ℕ) {k next : ℕ} {after : List ℕ} → Some k ≡ size_of bytes → next ≡ at + length bytes → after ≡ sets out at bytes
+    → at + length bytes ≤ length out → Put bytes out at (Some next) after
+unfolding place_after
+all-put [] out at e f g h = no-some (sym e)
+all-put (b ∷ bytes) out at e f g h = (rw (le-leb (at + length (b ∷ bytes)) (length out) h) (ap Some f), g ∙ sym (bytes_fit (b ∷ bytes) out at h))
+
+-- what has a size has that length, and is a number below 2 ^ 35
+pub sized : (bytes : List ℕ) {k : ℕ} → Some k ≡ size_of bytes → k ≡ length bytes
+sized [] e = no-some (sym e)
+sized (b ∷ bytes) e = some-injective _ _ e
+
+pub has-groups : (n : ℕ) {k : ℕ} → Some k ≡ size_of (groups n) → n < 2 ^ 35
+has-groups n e = go (ltb n (2 ^ 35)) refl
+  where
+    go : (t : Bool) → ltb n (2 ^ 35) ≡ t → n < 2 ^ 35
+    go true f = ltb-true n (2 ^ 35) f
+    go false f = no-some (sym (e ∙ ap size_of (no-groups n (ltb-false n (2 ^ 35) f))))

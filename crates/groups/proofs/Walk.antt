@@ -1,33 +1,43 @@
 -- Laws of the loop that reads a number: what the groups from place i on give the whole.
 use Rattle.std.specs.Prelude.{Option, None, Some}
 use Prim.Native.Nat.{ℕ, zero, suc, ◌+◌, ◌-◌, ◌*◌, ◌^◌, ◌≤◌, ◌<◌, min}
-use mathlib.Core.Path.{◌≡◌, refl, sym}
+use mathlib.Core.Path.{◌≡◌, ◌∙◌, refl, sym, ap, ap₂}
 use mathlib.Core.Bool.{Bool, true, false}
 use mathlib.Core.List.{List, [], ◌∷◌}
 use native.Mathlib.Nat.{pow-suc, pow-le-pow_right, mul-le-mul_left, mul-add}
+use native.Mathlib.Numerals.{add-one}
 use native.Mathlib.Omega.{arith}
 use borrow.Author.Tests.{leb-true, leb-false}
 use lib.Dec.{leb, lit<}
-use lib.ListN.{length, get_or, drop, drop_of_length-le, length-drop}
+use lib.ListN.{length, get_or, take, drop, drop_of_length-le, length-drop}
+use Rattle.std.proofs.lemmas.List.{get_or-take, get_or-drop}
 use Rattle.laws.proofs.Bytes.{at_next}
 use Rattle.rules.specs.Groups.{onto, parse_in}
 use Rattle.groups.specs.Placed.{as_reading, reading_at}
 use Rattle.groups.specs.declared.Number.{Number}
 use Rattle.groups.proofs.Steps.{parse-last, parse-more, onto-some, onto-onto}
 
--- ---- the unit of the group at place i, and what fits
+-- ---- the unit after k groups, and what fits
 
-pub unit-next : (at i : ℕ) → at ≤ i → 128 ^ (i - at) * 128 ≡ 128 ^ (i + 1 - at)
-unit-next at i h = let e : i + 1 - at ≡ suc (i - at) = omega arith in rw e (sym (pow-suc 128 (i - at)))
+pub unit-next : (k : ℕ) → 128 ^ k * 128 ≡ 128 ^ (k + 1)
+unit-next k = sym (rw (add-one k) (pow-suc 128 k))
 
-pub unit-most : (at i : ℕ) → i < at + 5 → 128 ^ (i - at) ≤ 2 ^ 28
-unit-most at i h = pow-le-pow_right {n = 128} (lit< tt) {i = i - at} {j = 4} (omega arith)
+pub unit-most : (k : ℕ) → k < 5 → 128 ^ k ≤ 2 ^ 28
+unit-most k h = pow-le-pow_right {n = 128} (lit< tt) {i = k} {j = 4} (omega arith)
 
 pub below_next : (v u g : ℕ) → v < u → g < 128 → v + u * g < u * 128
 below_next v u g h l =
     let p : u * (g + 1) ≤ u * 128 = mul-le-mul_left u (omega arith) in
     let q : u * (g + 1) ≡ u * g + u * 1 = mul-add u g 1 in
     omega arith
+
+-- a group's bits, where another follows
+pub low_bits : {b : ℕ} → b < 256 → b - 128 < 128
+low_bits h = omega arith
+
+-- what is read so far, with the group after the first k
+pub next-fits : {v u g : ℕ} (k : ℕ) → u ≡ 128 ^ k → k < 5 → v < u → g < 128 → v + u * g < 2 ^ 35
+next-fits {v} {u} {g} k e h l m = omega (arith, below_next v u g l m, unit-most k h, e)
 
 parse_empty : (k : ℕ) → parse_in k [] ≡ None
 unfolding parse_in
@@ -45,53 +55,65 @@ module _ (s : List ℕ) (at : ℕ) where
   unfolding reading_at parse_in
   none-there h = rw (drop_of_length-le s h) refl
 
-  -- a number whose last group is the one at place i
-  pub found : (v i : ℕ) → i < length s → as_reading (length s) (Some (v, drop (i + 1) s)) ≡ Some (record { value = v; next = i + 1 })
-  found v i h = let e : length s - (length s - (i + 1)) ≡ i + 1 = omega arith in rw (length-drop (i + 1) s, e) refl
+  -- a number whose last group is the one before place i
+  pub found : (v i : ℕ) → i ≤ length s → as_reading (length s) (Some (v, drop i s)) ≡ Some (record { value = v; next = i })
+  found v i h = let e : length s - (length s - i) ≡ i = omega arith in rw (length-drop i s, e) refl
 
-  pub one-group : at < length s → get_or s at 0 < 128 → reading_at s at ≡ Some (record { value = get_or s at 0; next = at + 1 })
-  unfolding reading_at
-  one-group h l = rw (at_next s at h, parse-last 4 (get_or s at 0) (drop (at + 1) s) l) (found (get_or s at 0) at h)
-
-  -- the answer, from the groups before place i and those from it on
+  -- the answer, from the first k groups and those after them
   abbrev pub Left : ℕ → ℕ → ℕ → Option Number
-  Left value unit i = as_reading (length s) (onto value unit (parse_in (at + 5 - i) (drop i s)))
+  Left value unit k = as_reading (length s) (onto value unit (parse_in (5 - k) (drop (at + k) s)))
 
-  pub groups-follow : at < length s → 128 ≤ get_or s at 0 → get_or s at 0 < 256 → reading_at s at ≡ Left (get_or s at 0 - 128) 128 (at + 1)
-  unfolding reading_at
-  groups-follow h l m =
-      let e : at + 5 - (at + 1) ≡ 4 = omega arith in
-      rw (at_next s at h, parse-more 4 (get_or s at 0) (drop (at + 1) s) l m, e) refl
+  module _ {b : ℕ} (h : at < length s) (is : b ≡ get_or s at 0) where
+    first : drop at s ≡ b ∷ drop (at + 1) s
+    first = at_next s at h ∙ ap (λ (c : ℕ). c ∷ drop (at + 1) s) (sym is)
 
-  -- ---- in the loop
+    pub one-group : b < 128 → reading_at s at ≡ Some (record { value = b; next = at + 1 })
+    unfolding reading_at
+    one-group l = rw (first, parse-last 4 b (drop (at + 1) s) l) (found b (at + 1) (omega arith))
 
-  module _ (v u i : ℕ) (few : i < at + 5) (h : i < length s) where
-    k : ℕ
-    k = at + 5 - (i + 1)
+    pub groups-follow : 128 ≤ b → b < 256 → reading_at s at ≡ Left (b - 128) 128 1
+    unfolding reading_at
+    groups-follow l m = rw (first, parse-more 4 b (drop (at + 1) s) l m) refl
 
-    here : parse_in (at + 5 - i) (drop i s) ≡ parse_in (suc k) (get_or s i 0 ∷ drop (i + 1) s)
-    unfolding k
-    here = let e : at + 5 - i ≡ suc (at + 5 - (i + 1)) = omega arith in rw (e, at_next s i h) refl
+  -- ---- in the loop: b is the group after the first k
 
-    pub zero-last : get_or s i 0 ≡ 0 → Left v u i ≡ None
-    zero-last e = rw (here, parse-last k (get_or s i 0) (drop (i + 1) s) (omega arith), e) refl
+  -- the groups after the first, as a part of the bytes
+  pub group-at : (n i : ℕ) → i < n → get_or (take n (drop (at + 1) s)) i 0 ≡ get_or s (at + (i + 1)) 0
+  group-at n i h = let e : at + 1 + i ≡ at + (i + 1) = omega arith in get_or-take n (drop (at + 1) s) i 0 h ∙ rw (get_or-drop, e) refl
 
-    pub last-there : (get_or s i 0 ≡ 0 → ⊥) → get_or s i 0 < 128 → Left v u i ≡ Some (record { value = v + u * get_or s i 0; next = i + 1 })
-    last-there e l =
-        let pos : 0 < get_or s i 0 = omega arith in
-        rw (here, parse-last k (get_or s i 0) (drop (i + 1) s) l, onto-some v u (get_or s i 0) (drop (i + 1) s) pos) (found (v + u * get_or s i 0) i h)
+  module _ (v u k : ℕ) {b : ℕ} (is : b ≡ get_or s (at + k) 0) (few : k < 5) (h : at + k < length s) where
+    rest : List ℕ
+    rest = drop (at + (k + 1)) s
 
-    pub more-there : 128 ≤ get_or s i 0 → get_or s i 0 < 256 → Left v u i ≡ Left (v + u * (get_or s i 0 - 128)) (u * 128) (i + 1)
-    unfolding k
-    more-there l m =
-        rw (here, parse-more k (get_or s i 0) (drop (i + 1) s) l m, onto-onto v u (get_or s i 0 - 128) (parse_in k (drop (i + 1) s))) refl
+    here : parse_in (5 - k) (drop (at + k) s) ≡ parse_in (suc (5 - (k + 1))) (b ∷ rest)
+    unfolding rest
+    here =
+        let e : 5 - k ≡ suc (5 - (k + 1)) = omega arith in
+        let f : at + k + 1 ≡ at + (k + 1) = omega arith in
+        ap₂ parse_in e (at_next s (at + k) h ∙ ap₂ (λ (c i : ℕ). c ∷ drop i s) (sym is) f)
 
-  pub too_far : (v u i : ℕ) → min (length s) (at + 5) ≤ i → Left v u i ≡ None
-  too_far v u i h = go (leb (length s) i) refl
+    pub zero-last : b ≡ 0 → Left v u k ≡ None
+    zero-last e =
+        let last : parse_in (suc (5 - (k + 1))) (b ∷ rest) ≡ Some (0, rest) =
+        parse-last (5 - (k + 1)) b rest (omega arith) ∙ ap {B = Option (ℕ × List ℕ)} (λ (c : ℕ). Some (c, rest)) e in
+        rw (here, last) refl
+
+    pub last-there : {n : ℕ} → (b ≡ 0 → ⊥) → b < 128 → n ≡ at + (k + 1) → Left v u k ≡ Some (record { value = v + u * b; next = n })
+    unfolding rest
+    last-there {n} e l f =
+        let pos : 0 < b = omega arith in
+        rw (here, parse-last (5 - (k + 1)) b rest l, onto-some v u b rest pos, f) (found (v + u * b) (at + (k + 1)) (omega arith))
+
+    pub more-there : 128 ≤ b → b < 256 → Left v u k ≡ Left (v + u * (b - 128)) (u * 128) (k + 1)
+    unfolding rest
+    more-there l m = rw (here, parse-more (5 - (k + 1)) b rest l m, onto-onto v u (b - 128) (parse_in (5 - (k + 1)) rest)) refl
+
+  pub too_far : (v u k : ℕ) → min (length s) (at + 5) ≤ at + k → Left v u k ≡ None
+  too_far v u k h = go (leb (length s) (at + k)) refl
     where
-      go : (t : Bool) → leb (length s) i ≡ t → Left v u i ≡ None
-      go true e = rw (drop_of_length-le s (leb-true (length s) i e), parse_empty (at + 5 - i)) refl
+      go : (t : Bool) → leb (length s) (at + k) ≡ t → Left v u k ≡ None
+      go true e = rw (drop_of_length-le s (leb-true (length s) (at + k) e), parse_empty (5 - k)) refl
       go false e =
-          let l = leb-false (length s) i e in
-          let z : at + 5 - i ≡ 0 = omega arith in
-          rw (z, parse_no_group (drop i s)) refl
+          let l = leb-false (length s) (at + k) e in
+          let z : 5 - k ≡ 0 = omega arith in
+          rw (z, parse_no_group (drop (at + k) s)) refl

@@ -1,5 +1,5 @@
 -- A number in groups as the code answers it: read at a place of a slice, and put at one.
-use Rattle.std.specs.Prelude.{ℕ, ◌+◌, ◌-◌, Bool, cond, List, leb, length, drop, Option, None, Some}
+use Rattle.std.specs.Prelude.{ℕ, ◌+◌, ◌-◌, Bool, cond, List, [], ◌∷◌, leb, length, drop, Option, None, Some}
 use Rattle.std.proofs.Math.Seq.{sets}
 use Rattle.rules.specs.Groups.{parse_groups}
 use Rattle.groups.specs.declared.Number.{Number}
@@ -21,5 +21,12 @@ room bytes out at = leb (at + length bytes) (length out)
 unfoldable pub bytes_after : List ℕ → List ℕ → ℕ → List ℕ
 bytes_after bytes out at = cond (room bytes out at) (sets out at bytes) out
 
-unfoldable pub place_after : List ℕ → List ℕ → ℕ → ℕ
-place_after bytes out at = cond (room bytes out at) (at + length bytes) at
+-- how many bytes a number's groups are; none where it has none
+abbrev pub size_of : List ℕ → Option ℕ
+size_of [] = None
+size_of (b ∷ bytes) = Some (length (b ∷ bytes))
+
+-- the place after them, where there are some and room for all of them
+unfoldable pub place_after : List ℕ → List ℕ → ℕ → Option ℕ
+place_after [] out at = None
+place_after (b ∷ bytes) out at = cond (room (b ∷ bytes) out at) (Some (at + length (b ∷ bytes))) None

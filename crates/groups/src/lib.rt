@@ -5,7 +5,7 @@
 ghost use Rattle.std.specs.Prelude.{◌≡◌, ◌+◌, ◌≤◌, ◌<◌, ◌^◌, length};
 ghost use Rattle.std.proofs.Math.Seq.{sets};
 ghost use Rattle.rules.specs.Groups.{groups};
-ghost use Rattle.groups.specs.Placed.{reading_at, bytes_after, place_after};
+ghost use Rattle.groups.specs.Placed.{reading_at, size_of, bytes_after, place_after};
 
 // A number and the place after it.
 #[derive(Clone, Copy, Debug, PartialEq, Eq)]
@@ -30,10 +30,7 @@ const LIMIT: u64 = 1 << 35;
 pub fn read(s: &[u8], at: usize) -> Option<Number>
     ensures { result ≡ reading_at s.now at }
 {
-    if s.len() <= at {
-        return None;
-    }
-    let first = s[at] as u64;
+    let first = *s.get(at)? as u64;
     if first < MORE {
         return Some(Number {
             value: first,
@@ -43,15 +40,15 @@ pub fn read(s: &[u8], at: usize) -> Option<Number>
     let end = s.len().min(at + MOST);
     let mut value = first - MORE;
     let mut unit = MORE;
-    for i in at + 1..end {
-        let group = s[i] as u64;
+    for (i, &byte) in s[at + 1..end].iter().enumerate() {
+        let group = byte as u64;
         if group == EMPTY {
             return None;
         }
         if group < MORE {
             return Some(Number {
                 value: value + unit * group,
-                next: i + 1,
+                next: at + 2 + i,
             });
         }
         value += unit * (group - MORE);
@@ -60,26 +57,26 @@ pub fn read(s: &[u8], at: usize) -> Option<Number>
     None
 }
 
-// How many bytes a number has; 0 where it has no groups.
-pub fn size(n: u64) -> usize
-    ensures { result ≡ length (groups n) }
+// How many bytes a number has; none where it has no groups.
+pub fn size(n: u64) -> Option<usize>
+    ensures { result ≡ size_of (groups n) }
 {
     if n < 1 << 7 {
-        return 1;
+        return Some(1);
     }
     if n < 1 << 14 {
-        return 2;
+        return Some(2);
     }
     if n < 1 << 21 {
-        return 3;
+        return Some(3);
     }
     if n < 1 << 28 {
-        return 4;
+        return Some(4);
     }
     if n < LIMIT {
-        return 5;
+        return Some(5);
     }
-    0
+    None
 }
 
 // Puts a number that has groups where there is room for them.
@@ -100,19 +97,14 @@ fn place(n: u64, out: &mut [u8], at: usize) -> usize
     i + 1
 }
 
-// Puts a number's bytes at place `at`, and answers the place after them; where they do not all fit, or there are none, nothing changes and the answer is `at`.
-pub fn put(n: u64, out: &mut [u8], at: usize) -> usize
+// Puts a number's bytes at place `at`, and answers the place after them; none where they do not all fit, or there are none, and nothing changes.
+pub fn put(n: u64, out: &mut [u8], at: usize) -> Option<usize>
     ensures next { result ≡ place_after (groups n) out.old at }
     ensures bytes { out.new ≡ bytes_after (groups n) out.old at }
 {
-    if LIMIT <= n {
-        return at;
+    let length = size(n)?;
+    if out.len().checked_sub(at)? < length {
+        return None;
     }
-    if out.len() < at {
-        return at;
-    }
-    if out.len() - at < size(n) {
-        return at;
-    }
-    place(n, out, at)
+    Some(place(n, out, at))
 }

@@ -25,7 +25,7 @@ use c_bodies::RecordPlaces;
 use c_structs::{Handed, HeldSettings, HeldUnit};
 use plan::Fields;
 use plant::GivenSettings;
-use rules::{Cause, Kind};
+use rules::{Cause, Format, Kind};
 use unit::Unit;
 
 // The bytes of an error file before its text.
@@ -117,6 +117,7 @@ pub fn jag_free_blocks(unit: HeldUnit) -> Number
     Number::from(Unit::from(unit).free_blocks().answer)
 }
 
+#[tactic(auto, unfolding(crate::specs::Check::check_number, rules::specs::Table::first_of), using(crate::proofs::Laws::store_row))]
 pub fn jag_check(unit: HeldUnit, store: &[u8]) -> u32
     ensures { result ≡ check_number (opened unit) store.now }
 {
@@ -164,6 +165,8 @@ pub fn jag_copy_rates(format: u32, body: &[u8], out: &mut [u8]) -> WrittenBytes
     WrittenBytes::from(c_bodies::copied(format, body, out))
 }
 
+// The number of a format becomes the format that it is one of, or none: numbers that are no format's all give the same.
+#[tactic(auto, using(plan::proofs::Numbers::number_same))]
 pub fn jag_write_body(
     format: u32,
     plant: &[u8],
@@ -178,7 +181,7 @@ pub fn jag_write_body(
     ensures buffer { out.new ≡ buffer_after (write_body (fields_of format plant.now schedule.now start.now next.now rates.now flag) (length out.old)) out.old }
 {
     let fields = Fields {
-        format,
+        format: Format::try_from(format).ok(),
         plant,
         schedule,
         start,
@@ -189,6 +192,7 @@ pub fn jag_write_body(
     WrittenBytes::from(writer::write_body(fields, out))
 }
 
+#[tactic(auto, using(crate::proofs::Laws::text_room, crate::proofs::Laws::error_given))]
 pub fn jag_error_file(file: &[u8]) -> ErrorAnswer
     ensures { result ≡ error_numbers (code_of (error_code file.now)) file.now }
 {

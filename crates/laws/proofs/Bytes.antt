@@ -8,6 +8,7 @@ use native.Mathlib.Numerals.{add-one}
 use native.Mathlib.Omega.{arith}
 use lib.Dec.{leb, eqb, lit<}
 use lib.ListN.{length, get_or, drop, length-append, length-drop, drop_of_length-le, take}
+use lib.Pointwise.{pointwise}
 use lib.Seq.{drop-cons, drop-length, length-take-le, drop-append-le, take-append-le, take_all}
 use borrow.Author.Tests.{leb-true, leb-false, le-leb, eqb-true, eq-eqb}
 use Rattle.rules.specs.Digits.{part, all_at_most, all_digits, all_ascii, from_ascii, value_from, value, decimal, same_bytes}
@@ -63,6 +64,14 @@ same-equal (x ∷ s) [] e = absurd (false≢true e)
 same-equal (x ∷ s) (y ∷ t) e =
     let p = both (eqb x y) (same_bytes s t) e in
     rw (eqb-true x y p.0, same-equal s t p.1) refl
+
+-- what `==` says of slices
+pub pointwise-same : (s t : List ℕ) → pointwise eqb s t ≡ same_bytes s t
+unfolding same_bytes
+pointwise-same [] [] = refl
+pointwise-same [] (y ∷ t) = refl
+pointwise-same (x ∷ s) [] = refl
+pointwise-same (x ∷ s) (y ∷ t) = ap (λ (b : Bool). eqb x y && b) (pointwise-same s t)
 
 pub same_self : (s : List ℕ) → same_bytes s s ≡ true
 unfolding same_bytes

@@ -1,19 +1,20 @@
 -- Laws of starts and next accesses: what the calendar's answers say of them, the months of segments, and the tests of whole months and of a 203.
-use Rattle.std.specs.Prelude.{Some, None}
+use Rattle.std.specs.Prelude.{Option, Some, None}
+use Rattle.std.specs.Option.{MatchOption, is_some}
 use Prim.Native.Nat.{ℕ, ◌+◌, ◌-◌, ◌*◌, ◌/◌, ◌%◌}
 use mathlib.Core.Path.{◌≡◌, ◌∙◌, refl, sym}
-use mathlib.Core.Bool.{Bool, true, false, cond, ◌&&◌, and-false, and-true}
+use mathlib.Core.Bool.{Bool, true, false, cond, ◌&&◌}
 use mathlib.Core.List.{List}
 use native.Mathlib.Omega.{arith}
 use lib.Dec.{leb, eqb}
 use borrow.Author.Tests.{eqb-true}
 use Rattle.rules.specs.Digits.{digits, value_from, decimal}
-use Rattle.rules.specs.Calendar.{slots_of_day, slot_count, days_of_month, slots_of_month, month_at, exists, seconds_of, moment, whole_minute, half_hour, slot_of, start_slot}
+use Rattle.rules.specs.Calendar.{slots_of_day, slot_count, days_of_month, slots_of_month, month_at, exists}
+use Rattle.rules.specs.Calendar.{seconds_of, moment, whole_minute, half_hour, slot_of, start_slot}
 use Rattle.rules.specs.Name.{segment_month}
 use Rattle.rules.specs.File.{month_begins, in_time}
 use Rattle.laws.proofs.Tests.{both}
 use Rattle.calendar.specs.Moments.{month_begun}
-use Rattle.calendar.proofs.DateLaws.{cond-none}
 use Rattle.calendar.proofs.Begins.{begun-facts, begun-none}
 use Rattle.layout.specs.Dates.{month_holds, update_holds}
 
@@ -47,13 +48,14 @@ module _ (t : List ℕ) where
 -- ---- a next access
 
 module _ (u : List ℕ) where
-  no-moment : moment u ≡ None → (digits 14 u && exists u) ≡ false
+  -- whether the calendar reads it
+  pub moment-is : {o : Option ℕ} → o ≡ moment u → is_some o ≡ (digits 14 u && exists u)
   unfolding moment
-  no-moment e = cond-none (digits 14 u && exists u) (seconds_of u) e
-
-  is-moment : {k : ℕ} → moment u ≡ Some k → (digits 14 u && exists u) ≡ true
-  unfolding moment
-  is-moment e = cond-some (digits 14 u && exists u) (seconds_of u) e
+  moment-is e = rw e (go (digits 14 u && exists u))
+    where
+      go : (b : Bool) → is_some (cond b (Some (seconds_of u)) None) ≡ b
+      go true = refl
+      go false = refl
 
   pub moment-some : digits 14 u ≡ true → exists u ≡ true → moment u ≡ Some (seconds_of u)
   unfolding moment
@@ -75,11 +77,11 @@ module _ (m n : ℕ) (t : List ℕ) where
       go true true true true d = refl
       go true true true false d = refl
 
-  pub no-month : None ≡ month_begun t → false ≡ month_holds m t n
-  no-month e = sym (month-test ∙ rw (begun-none t e) refl)
+  no-month : None ≡ month_begun t → month_holds m t n ≡ false
+  no-month e = month-test ∙ rw (begun-none t e) refl
 
   -- k is the month of the start, y its days
-  pub is-month : (k y : ℕ) → Some k ≡ month_begun t → y ≡ days_of_month k → (eqb k m && eqb n (slots_of_day * y)) ≡ month_holds m t n
+  is-month : (k y : ℕ) → Some k ≡ month_begun t → y ≡ days_of_month k → (eqb k m && eqb n (slots_of_day * y)) ≡ month_holds m t n
   is-month k y e y≡ =
       let f = begun-facts t k e in
       sym (month-test ∙ rw (f.form, f.there, f.first, ← f.month, y≡) (sym (go (eqb k m) refl)))
@@ -88,18 +90,21 @@ module _ (m n : ℕ) (t : List ℕ) where
       go true e = rw (eqb-true k m e) refl
       go false e = refl
 
+  -- b is false where the start begins no month, and else says whether both are the month's
+  pub month-is : {o : Option ℕ} {b : Bool} {Q : ℕ → Type 0} → o ≡ month_begun t → MatchOption o (b ≡ false) Q
+      → ((k : ℕ) → Q k → b ≡ (eqb k m && eqb n (slots_of_day * days_of_month k))) → b ≡ month_holds m t n
+  month-is {o = None} e b≡ h = b≡ ∙ sym (no-month e)
+  month-is {o = Some k} e q h = h k q ∙ is-month k (days_of_month k) e refl
+
 -- ---- the dates of a 203
 
-module _ (n : ℕ) (t u : List ℕ) where
-  pub update-no-start : None ≡ start_slot t → false ≡ update_holds t n u
-  unfolding update_holds
-  update-no-start e = rw (sym e) refl
+module _ (n : ℕ) (t : List ℕ) where
+  -- b is false where the start is no slot's, and else says whether the rates are in time
+  pub time-is : {o : Option ℕ} {b : Bool} {Q : ℕ → Type 0} → o ≡ start_slot t → MatchOption o (b ≡ false) Q
+      → ((k : ℕ) → Q k → b ≡ leb (k + n) slot_count) → b ≡ in_time n (start_slot t)
+  time-is {o = None} e b≡ h = rw (sym e) b≡
+  time-is {o = Some k} e q h = rw (sym e) (h k q)
 
-  pub update-no-next : None ≡ moment u → false ≡ update_holds t n u
+  pub update-is : (u : List ℕ) {a b : Bool} → a ≡ in_time n (start_slot t) → b ≡ (digits 14 u && exists u) → (a && b) ≡ update_holds t n u
   unfolding update_holds
-  update-no-next e = rw (no-moment u (sym e)) (sym (and-false (in_time n (start_slot t))))
-
-  pub update-is : (k j : ℕ) → Some k ≡ start_slot t → Some j ≡ moment u → leb (k + n) slot_count ≡ update_holds t n u
-  unfolding update_holds
-  update-is k j e g =
-      rw (sym e, is-moment u (sym g)) (sym (and-true (leb (k + n) slot_count)))
+  update-is u a≡ b≡ = rw (a≡, b≡) refl

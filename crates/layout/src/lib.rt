@@ -6,6 +6,7 @@ mod dates;
 mod formats;
 mod places;
 mod record;
+mod walk;
 
 pub use dates::{is_update, is_whole_month, segment_month};
 pub use formats::{
@@ -17,3 +18,4 @@ pub use places::{
     RATE_COUNT, RATES, RECORDS, RESULT, SCHEDULE_DIGITS, START, START_DIGITS,
 };
 pub use record::{checksum, rate_count, record_size};
+pub use walk::{Parts, Records};

@@ -42,6 +42,7 @@ fn read_input<R: Read>(input: &mut R, room: &mut [u8], most: usize) -> io::Resul
 }
 
 // A write that fails changes nothing of how the program ends.
+#[tactic(auto, using(listing::proofs::Puts::line_there))]
 fn main(rt: HostRuntime) {
     let mut room = space();
     let Ok(count) = read_input(&mut rt.stdin(), &mut room, most()) else {

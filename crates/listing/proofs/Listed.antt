@@ -6,10 +6,10 @@ use Rattle.rules.specs.Reading.{summary_of, reading_of}
 use Rattle.listing.specs.Line.{ok_text, refused_text, text_of, Printable}
 use Rattle.listing.proofs.Short.{SmallFile}
 
-pub text-read : (o : Outcome) → text_of (reading_of o) ≡ line_of o
+pub text_read : (o : Outcome) → text_of (reading_of o) ≡ line_of o
 unfolding reading_of summary_of line_of ok_text refused_text
-text-read (refuse c) = refl
-text-read (file f) = refl
+text_read (refuse c) = refl
+text_read (file f) = refl
 
 pub printable : (o : Outcome) → SmallFile o → Printable (reading_of o)
 unfolding reading_of summary_of

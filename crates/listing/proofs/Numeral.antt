@@ -76,9 +76,9 @@ map-append : (f : ℕ → ℕ) (s t : List ℕ) → map f (s ++ t) ≡ map f s +
 map-append f [] t = refl
 map-append f (x ∷ s) t = ap (λ (l : List ℕ). f x ∷ l) (map-append f s t)
 
-pub numeral-one : (n : ℕ) → n < 10 → numeral n ≡ (n % 10 + 48) ∷ []
+pub numeral_one : (n : ℕ) → n < 10 → numeral n ≡ (n % 10 + 48) ∷ []
 unfolding decimal trim
-numeral-one n h = ap to_ascii (trim-enough 19 0 n h)
+numeral_one n h = ap to_ascii (trim-enough 19 0 n h)
 
 pub numeral-more : (n : ℕ) → 10 ≤ n → n < 10 ^ 20 → numeral n ≡ numeral (n / 10) ++ ((n % 10 + 48) ∷ [])
 unfolding decimal
@@ -106,3 +106,16 @@ pub numeral-short : (j k n : ℕ) → j + suc k ≡ 20 → n < 10 ^ suc k → le
 numeral-short j k n e h =
     let m : length (trim (decimal (suc k) n)) ≤ suc k = omega (arith, length-trim (decimal (suc k) n), length-decimal (suc k) n) in
     rw (length-map (trim (decimal 20 n)) (λ d. d + 48), sym e, trim-enough j k n h) m
+
+-- as many digits as the numbers of a line have, and as any u64 has
+pub numeral_two : (n : ℕ) → n < 100 → length (numeral n) ≤ 2
+numeral_two n h = numeral-short 18 1 n refl h
+
+pub numeral_three : (n : ℕ) → n < 1000 → length (numeral n) ≤ 3
+numeral_three n h = numeral-short 17 2 n refl h
+
+pub numeral_five : (n : ℕ) → n < 100000 → length (numeral n) ≤ 5
+numeral_five n h = numeral-short 15 4 n refl h
+
+pub numeral_wide : (n : ℕ) → n < 18446744073709551616 → length (numeral n) ≤ 20
+numeral_wide n h = numeral-short 0 19 n refl (omega arith)

@@ -12,10 +12,13 @@ use Rattle.rules.specs.Name.{Name, format_number}
 use Rattle.rules.specs.Body.{Record, Body, schedule, registration, is_schedule, count_of, every, form_of_record}
 use Rattle.rules.specs.File.{Outcome, refuse, file, whole_month, months_from, first_month, record_dates, read_file}
 use Rattle.rules.specs.Lister.{total_rates, record_count, rate_count}
+use Rattle.rules.specs.Causes.{number_of}
+use Rattle.rules.specs.declared.Cause.{Cause}
 use Rattle.rules.specs.declared.Format.{Format}
 use Rattle.rules.specs.declared.Format.TheVariants.{F201, F202, F203, F301}
 use Rattle.laws.proofs.Tests.{both}
 use Rattle.laws.proofs.Facts.{month-facts}
+use Rattle.about_files.proofs.Causes.{numbered}
 use Rattle.about_files.proofs.Calendar.{days-most}
 use Rattle.about_files.proofs.Accepted.{Scheduled, accepted, bounded}
 
@@ -24,6 +27,9 @@ format_small F201 = lit< tt
 format_small F202 = lit< tt
 format_small F203 = lit< tt
 format_small F301 = lit< tt
+
+pub cause_small : (c : Cause) → number_of c < 100
+cause_small c = (numbered c).1
 
 -- ---- the rates of whole months
 

@@ -27,36 +27,36 @@ name-place = is_position_or_len (λ (x : List ℕ). length (name_part x)) (λ (b
 
 -- ---- the parts by that place
 
-pub name-before : (x : List ℕ) → name_part x ≡ take (length (name_part x)) x
+pub name_before : (x : List ℕ) → name_part x ≡ take (length (name_part x)) x
 unfolding name_part
-name-before [] = refl
-name-before (b ∷ x) = go (eqb b 10) (name-before x)
+name_before [] = refl
+name_before (b ∷ x) = go (eqb b 10) (name_before x)
   where
     go : (t : Bool) → name_part x ≡ take (length (name_part x)) x
         → cond t [] (b ∷ name_part x) ≡ take (length (cond t [] (b ∷ name_part x))) (b ∷ x)
     go true h = refl
     go false h = ap (λ (s : List ℕ). b ∷ s) h
 
-pub body-behind : (x : List ℕ) → body_part x ≡ drop (length (name_part x) + 1) x
+pub body_behind : (x : List ℕ) → body_part x ≡ drop (length (name_part x) + 1) x
 unfolding name_part body_part
-body-behind [] = refl
-body-behind (b ∷ x) = rw add-one (go (eqb b 10) (rw add-one at (body-behind x)))
+body_behind [] = refl
+body_behind (b ∷ x) = rw add-one (go (eqb b 10) (rw add-one at (body_behind x)))
   where
     go : (t : Bool) → body_part x ≡ drop (suc (length (name_part x))) x
         → cond t x (body_part x) ≡ drop (suc (length (cond t [] (b ∷ name_part x)))) (b ∷ x)
     go true h = refl
     go false h = h
 
-pub name-within : (x : List ℕ) → length (name_part x) ≤ length x
-name-within x = omega (arith, ap length (name-before x), length-take (length (name_part x)) x)
+pub name_within : (x : List ℕ) → length (name_part x) ≤ length x
+name_within x = omega (arith, ap length (name_before x), length-take (length (name_part x)) x)
 
-pub name-found : (x : List ℕ) → unwrap_or (position (λ (b : ℕ). eqb b 10) x) (length x) ≡ length (name_part x)
-name-found x = rw (sym (name-place x)) (go (ltb (length (name_part x)) (length x)) refl)
+pub name_found : (x : List ℕ) → unwrap_or (position (λ (b : ℕ). eqb b 10) x) (length x) ≡ length (name_part x)
+name_found x = rw (sym (name-place x)) (go (ltb (length (name_part x)) (length x)) refl)
   where
     go : (t : Bool) → ltb (length (name_part x)) (length x) ≡ t
         → unwrap_or (cond t (Some (length (name_part x))) None) (length x) ≡ length (name_part x)
     go true e = refl
-    go false e = omega (arith, ltb-false (length (name_part x)) (length x) e, name-within x)
+    go false e = omega (arith, ltb-false (length (name_part x)) (length x) e, name_within x)
 
 -- ---- the body as a part of a slice: from past the 0A on, or nothing where there is none
 
@@ -65,4 +65,4 @@ body-part x k e =
     part-rest x k
     ∙ ap (λ (j : ℕ). drop j x) e
     ∙ drop-most (length (name_part x) + 1) x
-    ∙ sym (body-behind x)
+    ∙ sym (body_behind x)

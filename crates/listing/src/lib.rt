@@ -40,6 +40,7 @@ fn put(mut line: Line, byte: u8) -> Line
 }
 
 // The line with a number more, in ASCII without zeros before it.
+#[tactic(auto, using(crate::proofs::Puts::digit_by_digit))]
 fn number(line: Line, n: u64) -> Line
     requires { line.length + length (numeral n) ≤ room }
     ensures { result ≡ puts line (numeral n) }
@@ -52,6 +53,7 @@ fn number(line: Line, n: u64) -> Line
 }
 
 // The line with a number more, and the byte behind it.
+#[tactic(auto, using(crate::proofs::Puts::puts_length, crate::proofs::Puts::put_behind))]
 fn field(line: Line, n: u32, behind: u8) -> Line
     requires { line.length + length (numeral n) < room }
     ensures { result ≡ puts line (numeral n ++ (behind ∷ [])) }
@@ -60,6 +62,7 @@ fn field(line: Line, n: u32, behind: u8) -> Line
 }
 
 // A number by itself, in ASCII without zeros before it.
+#[tactic(auto, using(crate::proofs::Numeral::numeral_wide))]
 pub fn decimal(n: u64) -> Line
     ensures { result ≡ line_in (numeral n) }
 {
@@ -71,6 +74,7 @@ pub fn decimal(n: u64) -> Line
 }
 
 // `ok`, format, records and total rates.
+#[tactic(auto, using(crate::proofs::Texts::short_fields))]
 fn ok_line(file: Summary) -> Line
     requires { Printable (Ok file) }
     ensures { result ≡ line_in (text_of (Ok file)) }
@@ -85,6 +89,7 @@ fn ok_line(file: Summary) -> Line
 }
 
 // `refused` and the cause's number.
+#[tactic(auto, using(crate::proofs::Numeral::numeral_two, crate::proofs::Short::cause_small))]
 fn refused_line(cause: Cause) -> Line
     ensures { result ≡ line_in (text_of (Err cause)) }
 {
@@ -117,6 +122,7 @@ fn reading_line(reading: Result<Summary, Cause>) -> Line
 }
 
 // What the lister prints for its input.
+#[tactic(auto, using(crate::proofs::Split::name_within, crate::proofs::Split::name_before))]
 pub fn line_of(input: &[u8]) -> Line
     ensures { result ≡ line_in (line input.now) }
 {

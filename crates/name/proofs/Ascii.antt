@@ -1,5 +1,5 @@
 -- Laws of ASCII digits: the number that four of them stand for.
-use Rattle.std.specs.Prelude.{Some, None}
+use Rattle.std.specs.Prelude.{Some}
 use Prim.Native.Nat.{ℕ, ◌-◌, ◌≤◌, ◌<◌}
 use mathlib.Core.Path.{◌≡◌, refl}
 use mathlib.Core.Bool.{true}
@@ -15,19 +15,9 @@ use Rattle.digits.specs.Decimal.{ascii_of}
 
 -- at most four are a number below 10,000
 module _ (s : List ℕ) (short : length s ≤ 4) (ascii : all_ascii s ≡ true) where
-  pub four-digits : value (from_ascii s) < 10000
-  four-digits = lt_of_lt_of_le (value-small (from_ascii s) (length s) (length-map s (λ x. x - 48)) (ascii-digits s ascii)) (pow-le-pow_right (lit< tt) short)
+  pub four_digits : value (from_ascii s) < 10000
+  four_digits = lt_of_lt_of_le (value-small (from_ascii s) (length s) (length-map s (λ x. x - 48)) (ascii-digits s ascii)) (pow-le-pow_right (lit< tt) short)
 
-  number_is : ascii_of s ≡ Some (value (from_ascii s))
+  pub number_is : ascii_of s ≡ Some (value (from_ascii s))
   unfolding ascii_of
   number_is = rw (le-leb (length s) 14 (omega arith), ascii) refl
-
-  -- what is read of them is that number
-  pub number_read : (n : ℕ) → ascii_of s ≡ Some n → n ≡ value (from_ascii s)
-  number_read n e = let f = number_is in cc
-
-  pub never-broken : ascii_of s ≡ None → ⊥
-  never-broken e =
-      let f = number_is in
-      let z : ◌≡◌ {A = ℕ} 0 1 = cc in
-      omega arith

@@ -7,7 +7,7 @@ use mathlib.Core.List.{List, [], ◌∷◌}
 use native.Mathlib.Omega.{arith}
 use lib.Dec.{leb, eqb}
 use lib.ListN.{length, length-map}
-use borrow.Author.Tests.{eqb-true, leb-true, eq-eqb, ne_eqb}
+use borrow.Author.Tests.{eqb-true, leb-true, eq-eqb}
 use Rattle.rules.specs.Digits.{part, digits, all_at_most, all_digits, value, value_from, all_ascii, from_ascii}
 use Rattle.rules.specs.Calendar.{exists, moment, seconds_of}
 use Rattle.rules.specs.Name.{Name, format_of, segment_fits, segment_digit, lawful_name, name_shape, name_fields, name_with, parse_name, any_segment}
@@ -93,9 +93,12 @@ module _ (s : List ℕ) (e : digits 4 s ≡ true) where
 
 -- ---- the form
 
-pub unshaped : (s : List ℕ) → name_shape s ≡ false → parse_name s ≡ None
-unfolding parse_name
-unshaped s e = rw e refl
+-- what the shape says of its parts that are read as numbers
+pub name_long : (s : List ℕ) → name_shape s ≡ true → length s ≡ 55
+name_long s e = (name-shape s e).long
+
+pub name_digits : (s : List ℕ) → name_shape s ≡ true → (all_ascii (part s 0 3) ≡ true) × (all_ascii (part s 4 4) ≡ true)
+name_digits s e = let t = name-shape s e in (t.format, t.segment)
 
 -- the segment's bytes, and the creation time's
 abbrev pub segment_of : List ℕ → List ℕ
@@ -112,9 +115,9 @@ module _ (s : List ℕ) (shape : name_shape s ≡ true) where
   has-plant = let t = name-shape s shape in part-digits s 9 26 (omega (arith, t.long)) t.plant
 
   -- of the fields, segment and creation time decide
-  pub lawful-is : (f : Format) → lawful_name (name_fields f s) ≡ (fits f (value (segment_of s)) && (digits 14 (created_of s) && exists (created_of s)))
+  pub lawful_is : (f : Format) → lawful_name (name_fields f s) ≡ (fits f (value (segment_of s)) && (digits 14 (created_of s) && exists (created_of s)))
   unfolding lawful_name
-  lawful-is f =
+  lawful_is f =
       go (digits 4 (segment_of s)) (segment_fits f (segment_of s)) (digits 26 (from_ascii (part s 9 26)))
       (digits 14 (created_of s)) (exists (created_of s))
       has-segment (segment-fits (segment_of s) has-segment f) has-plant
@@ -124,11 +127,6 @@ module _ (s : List ℕ) (shape : name_shape s ≡ true) where
       go true false true d x h k l = rw (sym k) refl
       go true b false d x h k l = absurd (false≢true l)
       go false b p d x h k l = absurd (false≢true h)
-
-  -- the name's answer is that of its format
-  pub parse_as : {o : Option Format} → format_of (value (from_ascii (part s 0 3))) ≡ o → parse_name s ≡ name_with o s
-  unfolding parse_name
-  parse_as e = rw (shape, e) refl
 
 -- ---- what a name that keeps the form has
 
@@ -167,7 +165,8 @@ pub parsed : (s : List ℕ) (n : Name) → parse_name s ≡ Some n → Parsed s 
 unfolding parse_name
 parsed s n e = go (name_shape s) refl (format_of (value (from_ascii (part s 0 3)))) e
   where
-    lawful : (f : Format) (b : Bool) → name_shape s ≡ true → lawful_name (name_fields f s) ≡ b → cond b (Some (name_fields f s)) None ≡ Some n → Parsed s n
+    lawful : (f : Format) (b : Bool) → name_shape s ≡ true → lawful_name (name_fields f s) ≡ b
+        → cond b (Some (name_fields f s)) None ≡ Some n → Parsed s n
     lawful f true shape l h = let e : name_fields f s ≡ n = cc in rw e at (lawful-parsed s f shape l)
     lawful f false shape l h = no-some h
 
@@ -203,23 +202,13 @@ read_named (Some n) f e =
 
 -- ---- a request's segment
 
-module _ (s : List ℕ) where
-  pub segment-short : (length s ≡ 4 → ⊥) → any_segment s ≡ false
-  unfolding any_segment
-  segment-short h = rw (ne_eqb (length s) 4 h) refl
-
-  module _ (long : length s ≡ 4) where
-    pub segment-other : all_ascii s ≡ false → any_segment s ≡ false
-    unfolding any_segment
-    segment-other e = rw (eq-eqb (length s) 4 long, e) refl
-
-    pub segment-any : all_ascii s ≡ true → any_segment s
-        ≡ (fits F201 (value (from_ascii s)) || fits F202 (value (from_ascii s)) || fits F203 (value (from_ascii s)) || fits F301 (value (from_ascii s)))
-    unfolding any_segment
-    segment-any e =
-        let d : digits 4 (from_ascii s) ≡ true = rw (ascii-digits s e, eq-eqb (length (from_ascii s)) 4 (simp length-map long)) refl in
-        let f = segment-fits (from_ascii s) d in
-        rw (eq-eqb (length s) 4 long, e, f F201, f F202, f F203, f F301) refl
+pub segment_any : (s : List ℕ) → length s ≡ 4 → all_ascii s ≡ true → any_segment s
+    ≡ (fits F201 (value (from_ascii s)) || fits F202 (value (from_ascii s)) || fits F203 (value (from_ascii s)) || fits F301 (value (from_ascii s)))
+unfolding any_segment
+segment_any s long e =
+    let d : digits 4 (from_ascii s) ≡ true = rw (ascii-digits s e, eq-eqb (length (from_ascii s)) 4 (simp length-map long)) refl in
+    let f = segment-fits (from_ascii s) d in
+    rw (eq-eqb (length s) 4 long, e, f F201, f F202, f F203, f F301) refl
 
 -- a request's segment is four bytes
 pub segment-length : (s : List ℕ) → any_segment s ≡ true → length s ≡ 4
@@ -231,9 +220,9 @@ segment-length s e =
 
 -- ---- the creation time
 
-pub date-some : (s : List ℕ) → is_some (moment s) ≡ (digits 14 s && exists s)
+pub date_some : (s : List ℕ) → is_some (moment s) ≡ (digits 14 s && exists s)
 unfolding moment
-date-some s = go (digits 14 s && exists s)
+date_some s = go (digits 14 s && exists s)
   where
     go : (b : Bool) → is_some (cond b (Some (seconds_of s)) None) ≡ b
     go true = refl

@@ -1,10 +1,10 @@
 -- What the functions on names answer: the fields of a name that keeps the form, and the digits of its plant ID.
-use Rattle.name.specs.declared.Fields.{Fields}
 use Rattle.std.specs.Prelude.{ℕ, ◌/◌, ◌%◌, Bool, cond, ◌&&◌, List, leb, eqb, length, replicate, Some, None, Option}
 use Rattle.rules.specs.Digits.{part, value, from_ascii}
 use Rattle.rules.specs.Name.{Name, name_length}
 use Rattle.rules.specs.declared.Format.{Format}
 use Rattle.rules.specs.declared.Format.TheVariants.{F201, F202, F203, F301}
+use Rattle.name.specs.declared.Fields.{Fields}
 
 -- the answer for what `parse_name` finds
 abbrev pub name_read : Option Name → Option Fields

@@ -50,25 +50,24 @@ pub struct Fields {
     pub segment: u16,
 }
 
-// Digits in ASCII as values; 0 of a byte below them.
+// Digits in ASCII as values; 0 of a byte below them. Copied and then changed in place: of bytes written through a `zip` a proof knows nothing.
 fn values(to: &mut [u8], ascii: &[u8])
     requires { length to.old ≡ length ascii.now }
     ensures { to.new ≡ from_ascii ascii.now }
 {
-    for (i, &x) in ascii.iter().enumerate() {
-        to[i] = x.saturating_sub(b'0');
+    to.copy_from_slice(ascii);
+    for x in to.iter_mut() {
+        *x = x.saturating_sub(b'0');
     }
 }
 
 // The number that at most four ASCII digits stand for.
+#[tactic(auto, using(crate::proofs::Ascii::number_is, crate::proofs::Ascii::four_digits))]
 fn number(ascii: &[u8]) -> u16
     requires { (length ascii.now ≤ 4) × (all_ascii ascii.now ≡ true) }
     ensures { result ≡ value (from_ascii ascii.now) }
 {
-    match digits::ascii_number(ascii) {
-        Some(n) => n as u16,
-        None => 0,
-    }
+    digits::ascii_number(ascii).unwrap_or(0) as u16
 }
 
 // '201 with 999 and any digit; 202 with YYMM (20YY, MM 01-12); 203 with 0000; 301 with 8888'.
@@ -101,6 +100,7 @@ fn stands(name: &[u8], start: usize, fixed: &[u8]) -> bool
 }
 
 // Whether the bytes are digits, underscores and .data where a name has them.
+#[tactic(auto, unfolding(rules::specs::Name::name_shape))]
 fn has_shape(name: &[u8]) -> bool
     ensures { result ≡ name_shape name.now }
 {
@@ -118,6 +118,7 @@ fn has_shape(name: &[u8]) -> bool
 }
 
 // Whether 14 ASCII bytes are a date that exists.
+#[tactic(auto, using(crate::proofs::Laws::date_some))]
 fn is_date(ascii: &[u8]) -> bool
     requires { length ascii.now ≡ 14 }
     ensures { result ≡ (digits 14 (from_ascii ascii.now) && exists (from_ascii ascii.now)) }
@@ -128,19 +129,20 @@ fn is_date(ascii: &[u8]) -> bool
 }
 
 // The fields of bytes with a name's shape, of that format.
+#[tactic(auto, using(crate::proofs::Laws::name_long, crate::proofs::Laws::name_digits, crate::proofs::Laws::lawful_is))]
 fn read_as(format: Format, name: &[u8]) -> Option<Fields>
     requires { name_shape name.now ≡ true }
     ensures { result ≡ name_read (name_with (Some format) name.now) }
 {
     let segment = number(&name[SEGMENT..SEGMENT_END]);
-    if fits(format, segment) & is_date(&name[CREATED..CREATED_END]) {
-        Some(Fields { format, segment })
-    } else {
-        None
-    }
+    (fits(format, segment) & is_date(&name[CREATED..CREATED_END])).then_some(Fields {
+        format,
+        segment,
+    })
 }
 
 // The fields of a name, from any bytes; None where they break the form (cause 7).
+#[tactic(auto, unfolding(rules::specs::Name::parse_name), using(crate::proofs::Laws::name_long, crate::proofs::Laws::name_digits))]
 pub fn read_name(name: &[u8]) -> Option<Fields>
     ensures { result ≡ name_read (parse_name name.now) }
 {
@@ -148,13 +150,12 @@ pub fn read_name(name: &[u8]) -> Option<Fields>
         return None;
     }
     let digits = number(&name[FORMAT..FORMAT_END]);
-    let Ok(format) = Format::try_from(digits as u32) else {
-        return None;
-    };
+    let format = Format::try_from(digits as u32).ok()?;
     read_as(format, name)
 }
 
 // The digits of a name's plant ID, as values; zeros where the bytes are not as many as a name has.
+#[tactic(auto, unfolding(crate::specs::Read::plant_digits))]
 pub fn plant_digits(name: &[u8]) -> [u8; PLANT_LENGTH]
     ensures { result ≡ plant_digits name.now }
 {
@@ -167,6 +168,7 @@ pub fn plant_digits(name: &[u8]) -> [u8; PLANT_LENGTH]
 }
 
 // Whether the bytes are a segment that some name may have: four ASCII digits that fit a format.
+#[tactic(auto, unfolding(rules::specs::Name::any_segment), using(crate::proofs::Laws::segment_any))]
 pub fn is_segment(segment: &[u8]) -> bool
     ensures { result ≡ any_segment segment.now }
 {

@@ -1,1 +1,2 @@
-pub mod Plans  -- what each way through the tests decides; a plan's records are the writer's output
+pub mod Plans  -- the dates as the code tests them, what a plan says of the fields, its output
+pub mod Numbers  -- all numbers that are no format's have one output

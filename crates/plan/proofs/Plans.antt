@@ -1,4 +1,4 @@
--- Laws of the plans: what each way through the tests decides, what a plan says of the fields, and that its records are the writer's output.
+-- Laws of the plans: the dates as the code tests them, what a plan says of the fields, and that its records are the writer's output.
 use Rattle.std.specs.Prelude.{Some, None, Option, Result, Ok, Err}
 use Prim.Native.Nat.{ℕ, ◌+◌, ◌-◌, ◌≤◌}
 use mathlib.Core.Path.{◌≡◌, ◌∙◌, refl, sym, ap}
@@ -31,7 +31,7 @@ use Rattle.plan.specs.Given.{UpdateGiven, MonthsGiven}
 use Rattle.plan.specs.declared.Plan.{Plan}
 use Rattle.plan.specs.declared.Plan.TheVariants.{Months, Update}
 
--- ---- a 201's or 202's plan, at each return
+-- ---- a 201's or 202's dates
 
 module _ (k : ℕ) (ident start rates : List ℕ) where
   -- the fields that its dates look at
@@ -39,7 +39,7 @@ module _ (k : ℕ) (ident start rates : List ℕ) where
   date_fields = fields_of 0 [] ident start [] rates 0
 
   -- whether m is followed by k months, and has as many rates as their slots
-  abbrev pub length_fits : ℕ → Bool
+  abbrev length_fits : ℕ → Bool
   length_fits m = leb (m + k) month_count && eqb (length rates) (first_slot (m + k) - first_slot m)
 
   months-fit : months_fit k date_fields ≡ ((exists (whole_minute start) && month_begins start) && length_fits (month_at start))
@@ -48,90 +48,37 @@ module _ (k : ℕ) (ident start rates : List ℕ) where
       let m = month_at start in
       and_assoc (exists (whole_minute start) && month_begins start) (leb (m + k) month_count) (eqb (length rates) (first_slot (m + k) - first_slot m))
 
-  pub months-form : (digits 10 ident && digits 12 start) ≡ false → Err Cause.Form ≡ months_plan k ident start rates
-  unfolding months_plan
-  months-form e = rw e refl
+-- the same, as the code tests them: by the month that the start begins
+pub unbegun_fits : (k : ℕ) (ident start rates : List ℕ) → digits 12 start ≡ true → None ≡ month_begun start
+    → months_fit k (fields_of 0 [] ident start [] rates 0) ≡ false
+unbegun_fits k ident start rates d e =
+    let unbegun : (exists (whole_minute start) && month_begins start) ≡ false = rw d at (begun-none start e) in
+    months-fit k ident start rates ∙ rw unbegun refl
 
-  module _ (d : (digits 10 ident && digits 12 start) ≡ true) where
-    dated : digits 12 start ≡ true
-    dated = (both (digits 10 ident) (digits 12 start) d).1
+pub begun_fits : (k : ℕ) (ident start rates : List ℕ) (m : ℕ) → Some m ≡ month_begun start
+    → months_fit k (fields_of 0 [] ident start [] rates 0) ≡ (leb (m + k) month_count && eqb (length rates) (first_slot (m + k) - first_slot m))
+begun_fits k ident start rates m b =
+    let f = begun-facts start m b in
+    months-fit k ident start rates ∙ rw (f.there, f.first, ← f.month) refl
 
-    pub months-unbegun : None ≡ month_begun start → Err Cause.Date ≡ months_plan k ident start rates
-    unfolding months_plan
-    months-unbegun e =
-        let unbegun : (exists (whole_minute start) && month_begins start) ≡ false = rw dated at (begun-none start e) in
-        rw (d, months-fit, unbegun) refl
+pub begun_month : (start : List ℕ) (m : ℕ) → Some m ≡ month_begun start → month_at start ≡ m
+begun_month start m b = sym (begun-facts start m b).month
 
-    module _ (m : ℕ) (b : Some m ≡ month_begun start) where
-      fit_is : months_fit k date_fields ≡ length_fits m
-      fit_is = let f = begun-facts start m b in months-fit ∙ rw (f.there, f.first, ← f.month) refl
+pub slots_rise : (m k : ℕ) → first_slot m ≤ first_slot (m + k)
+slots_rise m k = first-slot-monotone m (m + k) (omega arith)
 
-      pub months-length : length_fits m ≡ false → Err Cause.Date ≡ months_plan k ident start rates
-      unfolding months_plan
-      months-length e = rw (d, fit_is, e) refl
+pub ruleset dates = (unbegun_fits, begun_fits, begun_month, slots_rise)
 
-      module _ (f : length_fits m ≡ true) where
-        pub months-rate : all_at_most highest_rate rates ≡ false → Err Cause.Rate ≡ months_plan k ident start rates
-        unfolding months_plan
-        months-rate e = rw (d, fit_is, f, e) refl
+-- ---- a 203's form and dates
 
-        pub months-plan : all_at_most highest_rate rates ≡ true → Ok (Months m (m + k)) ≡ months_plan k ident start rates
-        unfolding months_plan
-        months-plan e = rw (d, fit_is, f, e, (begun-facts start m b).month) refl
+-- the dates, as the code tests them
+pub dated_as : (start next : List ℕ) (n : ℕ) → digits 14 next ≡ true → update_dated start next n ≡ update_holds start n next
+unfolding update_holds
+dated_as start next n e = rw e refl
 
--- ---- a 203's plan, at each return
-
-module _ (ident start next rates : List ℕ) where
-  abbrev pub form_fits : Bool
-  form_fits = digits 10 ident && digits 12 start && (digits 14 next && leb (length rates) 336)
-
-  pub update-form : form_fits ≡ false → Err Cause.Form ≡ update_plan ident start next rates
-  unfolding update_plan
-  update-form e = rw e refl
-
-  module _ (d : form_fits ≡ true) where
-    after : (digits 14 next ≡ true) × (leb (length rates) 336 ≡ true)
-    after = both (digits 14 next) (leb (length rates) 336) (both (digits 10 ident && digits 12 start) (digits 14 next && leb (length rates) 336) d).1
-
-    pub update-few : length rates ≤ 336
-    update-few = leb-true (length rates) 336 after.1
-
-    dated_is : update_dated start next (length rates) ≡ update_holds start (length rates) next
-    unfolding update_holds
-    dated_is = rw after.0 refl
-
-    pub update-date : update_holds start (length rates) next ≡ false → Err Cause.Date ≡ update_plan ident start next rates
-    unfolding update_plan
-    update-date e = rw (d, dated_is, e) refl
-
-    module _ (f : update_holds start (length rates) next ≡ true) where
-      pub update-rate : all_at_most highest_rate rates ≡ false → Err Cause.Rate ≡ update_plan ident start next rates
-      unfolding update_plan
-      update-rate e = rw (d, dated_is, f, e) refl
-
-      pub update-plan : all_at_most highest_rate rates ≡ true → Ok Update ≡ update_plan ident start next rates
-      unfolding update_plan
-      update-plan e = rw (d, dated_is, f, e) refl
-
--- ---- the plan of the fields, at each return
-
-module _ (w : Fields) where
-  pub plan_id : plant_id w.plant ≡ false → Err Cause.PlantId ≡ plan_of w
-  unfolding plan_of
-  plan_id e = rw e refl
-
-  module _ (p : plant_id w.plant ≡ true) where
-    pub plan-flag : flag_fits w ≡ false → Err Cause.Range ≡ plan_of w
-    unfolding plan_of
-    plan-flag e = rw (p, e) refl
-
-    module _ (f : flag_fits w ≡ true) where
-      plan_is : plan_of w ≡ plan_as w (format_of w.format)
-      unfolding plan_of
-      plan_is = rw (p, f) refl
-
-      pub plan_format : {o : Option Format} → format_of w.format ≡ o → plan_as w o ≡ plan_of w
-      plan_format e = sym (plan_is ∙ ap (plan_as w) e)
+-- the form that its fields have
+abbrev form_fits : List ℕ → List ℕ → List ℕ → List ℕ → Bool
+form_fits ident start next rates = digits 10 ident && digits 12 start && (digits 14 next && leb (length rates) 336)
 
 -- ---- what a plan says of the fields
 
@@ -154,7 +101,9 @@ three-passed a b d c₁ c₂ c₃ p q h e =
     (p₁.0, p₂.0, (passed d c₃ p q h p₂.1).1)
 
 months-passed : (k : ℕ) (ident start rates : List ℕ) (q : Result Plan Cause) → kept q ≡ true → months_plan k ident start rates ≡ q
-    → ((digits 10 ident && digits 12 start) ≡ true) × (months_fit k (date_fields k ident start rates) ≡ true) × (Ok (Months (month_at start) (month_at start + k)) ≡ q)
+    → ((digits 10 ident && digits 12 start) ≡ true)
+    × (months_fit k (date_fields k ident start rates) ≡ true)
+    × (Ok (Months (month_at start) (month_at start + k)) ≡ q)
 unfolding months_plan
 months-passed k ident start rates q h e =
     let m = month_at start in
@@ -177,7 +126,8 @@ months-facts : (k : ℕ) (w : Fields) (first end : ℕ) → k ≤ 13 → length 
 months-facts k w first end few long e =
     let p = months-passed k w.schedule w.start w.rates (Ok (Months first end)) refl e in
     let m = month_at w.start in
-    let fit = (both (exists (whole_minute w.start) && month_begins w.start) (length_fits k w.schedule w.start w.rates m) (sym (months-fit k w.schedule w.start w.rates) ∙ p.1)).1 in
+    let begins = exists (whole_minute w.start) && month_begins w.start in
+    let fit = (both begins (length_fits k w.schedule w.start w.rates m) (sym (months-fit k w.schedule w.start w.rates) ∙ p.1)).1 in
     let tests = both (leb (m + k) month_count) (eqb (length w.rates) (first_slot (m + k) - first_slot m)) fit in
     let last = leb-true (m + k) month_count tests.0 in
     let slots = eqb-true (length w.rates) (first_slot (m + k) - first_slot m) tests.1 in
@@ -249,7 +199,8 @@ module _ (w : Fields) where
       go true t = refl
       go false t = t
 
-  plan-passed : (q : Result Plan Cause) → kept q ≡ true → plan_of w ≡ q → (plant_id w.plant ≡ true) × (flag_fits w ≡ true) × (plan_as w (format_of w.format) ≡ q)
+  plan-passed : (q : Result Plan Cause) → kept q ≡ true → plan_of w ≡ q
+      → (plant_id w.plant ≡ true) × (flag_fits w ≡ true) × (plan_as w (format_of w.format) ≡ q)
   unfolding plan_of
   plan-passed q h e =
       let o = plan_as w (format_of w.format) in
@@ -257,8 +208,8 @@ module _ (w : Fields) where
       let p₂ = passed (flag_fits w) Cause.Range o q h p₁.1 in
       (p₁.0, p₂.0, p₂.1)
 
-  pub plan-months : (first end : ℕ) → plan_of w ≡ Ok (Months first end) → MonthsGiven w first end
-  plan-months first end e =
+  pub months_given : (first end : ℕ) → plan_of w ≡ Ok (Months first end) → MonthsGiven w first end
+  months_given first end e =
       let p = plan-passed (Ok (Months first end)) refl e in
       months-as (format_of w.format) first end (plant-length w.plant p.0) p.2
 
@@ -270,8 +221,8 @@ module _ (w : Fields) where
       let others = cond (eqb n 203) (Some F203) (cond (eqb n 301) (Some F301) None) in
       leb-true w.flag 9 (flag-as (eqb n 201) (eqb n 202) others p.1 p.2)
 
-  pub plan-update : plan_of w ≡ Ok Update → UpdateGiven w
-  plan-update e =
+  pub update_given : plan_of w ≡ Ok Update → UpdateGiven w
+  update_given e =
       let p = plan-passed (Ok Update) refl e in
       update-as (format_of w.format) (plan-digit e) (plant-length w.plant p.0) p.2
 

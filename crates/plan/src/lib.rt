@@ -9,18 +9,13 @@ ghost use Rattle.plan.specs.Plan.{months_plan, update_plan, plan_of};
 use layout::{SCHEDULE_DIGITS, START_DIGITS, record_count};
 use rules::{Cause, Format, HIGHEST_RATE, MONTH_COUNT};
 
-// 'For 201 and 202 flag and next access are not looked at' (01, Beside the unit).
-const YEARLY: u32 = 201;
-
-const MONTHLY: u32 = 202;
-
 // Cause 6: 'writer's flag above 9'.
 const HIGHEST_FLAG: u32 = 9;
 
-// What a body is written from (01, Beside the unit): as the caller gives it, not looked at yet.
+// What a body is written from (01, Beside the unit): as the caller gives it, not looked at yet. The format is none where the caller's is no format.
 #[derive(Clone, Copy)]
 pub struct Fields<'a> {
-    pub format: u32,
+    pub format: Option<Format>,
     pub plant: &'a [u8],
     pub schedule: &'a [u8],
     pub start: &'a [u8],
@@ -29,7 +24,7 @@ pub struct Fields<'a> {
     pub flag: u32,
 }
 
-// The records of a body: those of the months from `first` to before `end`, or an update's.
+// The records of a body: those of the months from `first` to before `end`, or an update's. No Option: both cases are some.
 #[derive(Clone, Copy, Debug, PartialEq, Eq)]
 pub enum Plan {
     Months { first: u16, end: u16 },
@@ -44,6 +39,7 @@ fn is_digits(s: &[u8], count: usize) -> bool
 }
 
 // A 201's or 202's plan, of `count` months.
+#[tactic(auto, unfolding(crate::specs::Plan::months_plan), using(crate::proofs::Plans::dates))]
 fn plan_months(count: u16, fields: Fields) -> Result<Plan, Cause>
     requires { count ≤ 13 }
     ensures { result ≡ months_plan count fields.entry.schedule.now fields.entry.start.now fields.entry.rates.now }
@@ -66,6 +62,7 @@ fn plan_months(count: u16, fields: Fields) -> Result<Plan, Cause>
 }
 
 // A 203's plan.
+#[tactic(auto, unfolding(crate::specs::Plan::update_plan), using(crate::proofs::Plans::dated_as))]
 fn plan_update(fields: Fields) -> Result<Plan, Cause>
     ensures { result ≡ update_plan fields.entry.schedule.now fields.entry.start.now fields.entry.next.now fields.entry.rates.now }
 {
@@ -87,21 +84,21 @@ fn plan_update(fields: Fields) -> Result<Plan, Cause>
 }
 
 // The plan of a body's fields: causes 1, 6, 7, 9, 10 and 11, in that order.
+// 'For 201 and 202 flag and next access are not looked at' (01, Beside the unit).
+#[tactic(auto, unfolding(crate::specs::Plan::plan_of, rules::specs::Name::format_of))]
 pub fn decide(fields: Fields) -> Result<Plan, Cause>
     ensures { result ≡ plan_of (given fields.entry) }
 {
-    let Fields { format, flag, .. } = fields;
     if !plant::is_plant_id(fields.plant) {
         return Err(Cause::PlantId);
     }
-    if !((flag <= HIGHEST_FLAG) | (format == YEARLY) | (format == MONTHLY)) {
-        return Err(Cause::Range);
-    }
-    let known = Format::try_from(format)?;
-    match known {
-        Format::F201 => plan_months(record_count(known) as u16, fields),
-        Format::F202 => plan_months(record_count(known) as u16, fields),
-        Format::F203 => plan_update(fields),
-        Format::F301 => Err(Cause::Name),
+    match fields.format {
+        Some(known @ (Format::F201 | Format::F202)) => plan_months(
+            record_count(known) as u16,
+            fields,
+        ),
+        _ if HIGHEST_FLAG < fields.flag => Err(Cause::Range),
+        Some(Format::F203) => plan_update(fields),
+        Some(Format::F301) | None => Err(Cause::Name),
     }
 }

@@ -1,17 +1,18 @@
 -- The laws of the plant: what a valid one has, what installing leaves, and the bounds of p and of the command.
 use Rattle.std.specs.Prelude.{Ok, Err}
 use Prim.Native.Nat.{ℕ, zero, suc, ◌*◌, ◌/◌, ◌≤◌, ◌<◌}
-use mathlib.Core.Path.{◌≡◌, ◌∙◌, refl, ap}
+use mathlib.Core.Path.{◌≡◌, refl}
 use mathlib.Core.Bool.{Bool, true, false, cond, ◌&&◌}
 use mathlib.Core.List.{List, [], ◌∷◌}
-use native.Mathlib.Nat.{le_trans, mul-le-mul_left, mul-le-mul_right, mul_comm, min-le_right, min-eq_left, div-zero, div-le_of_le-mul}
+use native.Mathlib.Nat.{le_trans, mul-le-mul_left, mul-le-mul_right, mul_comm, min-le_right, min-eq_left, div-le_of_le-mul}
 use native.Mathlib.Omega.{arith}
 use lib.Dec.{leb, eqb}
 use lib.ListN.{length, get_or}
 use borrow.Author.Tests.{le-leb, leb-true, eqb-true}
 use Rattle.rules.specs.Causes.{Answer}
 use Rattle.rules.specs.Digits.{all_at_most, digits}
-use Rattle.rules.specs.Plant.{Settings, plant_id, last_digit, weighted_sum, check_digit, hex_byte, all_hex, mac_address, capacity, ramp_minutes, valid_settings, contracted, percent, parts_of, full_command, installing}
+use Rattle.rules.specs.Plant.{Settings, plant_id, last_digit, weighted_sum, check_digit, hex_byte, all_hex, mac_address}
+use Rattle.rules.specs.Plant.{capacity, ramp_minutes, valid_settings, contracted, percent, parts_of, full_command, installing}
 use Rattle.rules.specs.Body.{highest_rate}
 use Rattle.rules.specs.Store.{longest_wait}
 use Rattle.rules.specs.Machine.{fixed_wait, update_wait, refused_wait}
@@ -130,18 +131,6 @@ unfolding valid_plant mac_address all_hex valid_settings plant_id check_digit we
 no-plant = refl
 
 module _ (id mac : List ℕ) (s : Settings) where
-  pub id_refuses : plant_id id ≡ false → installing id mac s ≡ Err Cause.PlantId
-  unfolding installing
-  id_refuses e = rw e refl
-
-  pub setting-refuses : plant_id id ≡ true → (mac_address mac && valid_settings s) ≡ false → installing id mac s ≡ Err Cause.Setting
-  unfolding installing
-  setting-refuses e f = rw (e, f) refl
-
-  pub all-accepted : plant_id id ≡ true → (mac_address mac && valid_settings s) ≡ true → installing id mac s ≡ Ok tt
-  unfolding installing
-  all-accepted e f = rw (e, f) refl
-
   -- a refused installation keeps nothing
   pub refused_none : (c : Cause) → installing id mac s ≡ Err c → installed id mac s ≡ refusal c
   unfolding installed
@@ -166,8 +155,11 @@ module _ (id mac : List ℕ) (s : Settings) where
         go true false v ok is e = cc
         go false m v ok is e = cc
 
-    pub accepted-facts : Valid (plant_of id mac s)
-    accepted-facts = valid-facts (plant_of id mac s) accepted-values
+    -- of their lengths, and settings that are kept as they are
+    pub accepted_kept : (length id ≡ 26) × (length mac ≡ 12) × (kept_from (narrowed s) ≡ kept_from s)
+    accepted_kept =
+        let v = valid-facts (plant_of id mac s) accepted-values in
+        (v.id.long, v.mac.long, kept_whole s (in-range-kept s v.settings))
 
 -- ---- percent and the command
 
@@ -175,10 +167,12 @@ module _ (id mac : List ℕ) (s : Settings) where
 pub product-below : (a b m n : ℕ) → a ≤ m → b ≤ n → a * b ≤ m * n
 product-below a b m n h k = le_trans (mul-le-mul_left a k) (mul-le-mul_right n h)
 
--- no inverter, nothing of it
-pub percent-none : (s : Settings) (r : ℕ) → s.inverter ≡ 0 → percent s r ≡ 0
-unfolding percent
-percent-none s r e = ap (λ (k : ℕ). r * contracted s / k) e ∙ div-zero (r * contracted s)
+-- so a rate of C fits in 64 bits, and the command's parts do
+pub rate_fits : (r c : ℕ) → r < 256 → c < 4294967296 → r * c < 18446744073709551616
+rate_fits r c h k = omega (arith, product-below r c 255 4294967295 (omega arith) (omega arith))
+
+pub parts_fit : (n p : ℕ) → n < 4294967296 → p < 256 → 60 * n * p < 18446744073709551616
+parts_fit n p h k = omega (arith, product-below (60 * n) p (60 * 4294967295) 255 (omega arith) (omega arith))
 
 module _ (s : Settings) where
   -- C is at most P
@@ -190,6 +184,10 @@ module _ (s : Settings) where
   unfolding percent
   percent-le r =
       div-le_of_le-mul s.inverter (rw (mul_comm s.inverter r) (mul-le-mul_left r contracted-most))
+
+  pub percent_fits : (r : ℕ) → r * contracted s / s.inverter ≤ r
+  unfolding percent
+  percent_fits = percent-le
 
   pub percent-most : (r : ℕ) → r ≤ highest_rate → percent s r ≤ 100
   percent-most r h = le_trans (percent-le r) h

@@ -7,28 +7,26 @@ use mathlib.Core.List.{List, [], ◌∷◌}
 use native.Mathlib.Numerals.{add-one}
 use native.Mathlib.Omega.{arith}
 use native.Mathlib.Nat.{mul-le-mul_left, le_trans, le_of_suc-le-suc, eq-or-lt_of_le}
-use borrow.Author.Tests.{eqb-true}
-use lib.Dec.{eqb, lit≤}
+use borrow.Author.Tests.{eqb-true, leb-true}
+use lib.Dec.{eqb, leb}
 use lib.ListN.{length, get_or, drop}
 use Rattle.rules.specs.Store.{all_below}
 use Rattle.rules.specs.Plant.{weights, weighted_sum, all_hex, hex_byte}
 use Rattle.laws.proofs.Bytes.{at_next}
+use Rattle.laws.proofs.Tests.{both}
+use Rattle.rules.specs.Digits.{all_at_most}
 use Rattle.digits.proofs.Scan.{all-step, all_end}
 
-pub hex-step : (s : List ℕ) (i : ℕ) (good : Bool) → i < length s
+pub hex_step : (s : List ℕ) (i : ℕ) (good : Bool) → i < length s
     → (good && all_hex (drop i s)) ≡ ((good && hex_byte (get_or s i 0)) && all_hex (drop (i + 1) s))
 unfolding all_hex
-hex-step = all-step hex_byte all_hex refl (λ x xs. refl)
+hex_step = all-step hex_byte all_hex refl (λ x xs. refl)
 
-pub hex-end : (s : List ℕ) (i : ℕ) (good : Bool) → length s ≤ i → (good && all_hex (drop i s)) ≡ good
+pub hex_end : (s : List ℕ) (i : ℕ) (good : Bool) → length s ≤ i → (good && all_hex (drop i s)) ≡ good
 unfolding all_hex
-hex-end = all_end hex_byte all_hex refl (λ x xs. refl)
+hex_end = all_end hex_byte all_hex refl (λ x xs. refl)
 
 -- ---- the weighted sum
-pub weighted-step : (s : List ℕ) (i : ℕ) → i < length s
-    → weighted_sum i (drop i s) ≡ get_or s i 0 * get_or weights (i % 5) 0 + weighted_sum (i + 1) (drop (i + 1) s)
-unfolding weighted_sum
-weighted-step s i h = rw (at_next s i h, add-one i) refl
 
 -- each number below n passes
 all-at : (n : ℕ) (test : ℕ → Bool) → all_below n test ≡ true → (k : ℕ) → k < n → test k ≡ true
@@ -54,15 +52,44 @@ pub weight_is : (k : ℕ) → k < 25 → get_or weight_table k 0 ≡ get_or weig
 unfolding all_below right
 weight_is k l = eqb-true (get_or weight_table k 0) (get_or weights (k % 5) 0) (all-at 25 right refl k l)
 
-weight_bound : (k : ℕ) → get_or weights k 0 ≤ 9
-weight_bound zero = lit≤ tt
-weight_bound (suc zero) = lit≤ tt
-weight_bound (suc (suc zero)) = lit≤ tt
-weight_bound (suc (suc (suc zero))) = lit≤ tt
-weight_bound (suc (suc (suc (suc zero)))) = lit≤ tt
-weight_bound (suc (suc (suc (suc (suc k))))) = lit≤ tt
+-- digits times weights, summed, as far as both go
+pub weigh : List ℕ → List ℕ → ℕ
+weigh [] b = 0
+weigh (x ∷ a) [] = 0
+weigh (x ∷ a) (y ∷ b) = x * y + weigh a b
 
-pub weighted_bound : (x k : ℕ) → x < 256 → x * get_or weights k 0 ≤ 2295
-weighted_bound x k h =
+weigh-from : (i : ℕ) (s : List ℕ) → length s + i ≤ 25 → weighted_sum i s ≡ weigh s (drop i weight_table)
+unfolding weighted_sum weigh
+weigh-from i [] h = refl
+weigh-from i (x ∷ s) h =
+    let here : i < 25 = omega arith in
+    rw (at_next weight_table i here, weight_is i here, add-one i, weigh-from (suc i) s (omega arith)) refl
+
+pub weigh_all : (s : List ℕ) → length s ≤ 25 → weighted_sum 0 s ≡ weigh s weight_table
+weigh_all s h = weigh-from 0 s (omega arith)
+
+pub weights_most : all_at_most 9 weight_table ≡ true
+unfolding all_at_most
+weights_most = refl
+
+-- a digit and its weight more: nine at most is the weight
+module _ {a b a' b' : List ℕ} {x y : ℕ} (e : a ≡ x ∷ a') (f : b ≡ y ∷ b') where
+  pub weigh-next : weigh a b ≡ x * y + weigh a' b'
+  unfolding weigh
+  weigh-next = rw (e, f) refl
+
+  pub weights-next : all_at_most 9 b ≡ true → (y ≤ 9) × (all_at_most 9 b' ≡ true)
+  unfolding all_at_most
+  weights-next h = let p = both (leb y 9) (all_at_most 9 b') (rw f at h) in (leb-true y 9 p.0, p.1)
+
+pub weigh-end : (a b : List ℕ) → (a ≡ []) ⊎ (b ≡ []) → weigh a b ≡ 0
+unfolding weigh
+weigh-end [] b e = refl
+weigh-end (x ∷ a) b (inl e) = rw e refl
+weigh-end (x ∷ a) b (inr e) = rw e refl
+
+-- a byte times a weight
+pub weighted-most : (x y : ℕ) → x < 256 → y ≤ 9 → x * y ≤ 2295
+weighted-most x y h k =
     let a : x ≤ 255 = omega arith in
-    le_trans (mul-le-mul_left x (weight_bound k)) (omega arith)
+    le_trans (mul-le-mul_left x k) (omega arith)

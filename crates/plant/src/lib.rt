@@ -2,7 +2,8 @@
 #![tactic(auto)]
 
 ghost use Rattle.std.specs.Prelude.{◌≡◌, ◌≤◌, min, length, Ok};
-ghost use Rattle.rules.specs.Plant.{plant_id, weighted_sum, mac_address, all_hex, hex_byte, valid_settings, capacity, contracted, percent, parts_of, last_digit, installing};
+ghost use Rattle.rules.specs.Plant.{plant_id, weighted_sum, mac_address, all_hex, hex_byte, valid_settings, capacity, contracted, percent, parts_of};
+ghost use Rattle.rules.specs.Plant.{last_digit, installing};
 ghost use Rattle.plant.specs.Plant.{kept_of, kept_from, given_of, widest, narrowed, settings_of, valid_plant, plant_of, installed, refusal};
 
 use rules::Cause;
@@ -66,18 +67,20 @@ pub struct Installed {
 }
 
 // The digits times their weights, summed.
+#[tactic(auto, using(crate::proofs::Scan::weigh_all, crate::proofs::Scan::weights_most))]
 fn weighted_sum(s: &[u8]) -> u16
     requires { length s.now ≤ 25 }
     ensures { result ≡ weighted_sum 0 s.now }
 {
     let mut sum: u16 = 0;
-    for (i, &x) in s.iter().enumerate() {
-        sum += (x as u16) * (WEIGHTS[i] as u16);
+    for (&x, &weight) in s.iter().zip(&WEIGHTS) {
+        sum += (x as u16) * (weight as u16);
     }
     sum
 }
 
 // Whether the bytes are a plant's ID: 26 digits, of which the last is the check digit of the others.
+#[tactic(auto, unfolding(rules::specs::Plant::plant_id, rules::specs::Plant::check_digit))]
 pub fn is_plant_id(id: &[u8]) -> bool
     ensures { result ≡ plant_id id.now }
 {
@@ -91,10 +94,11 @@ pub fn is_plant_id(id: &[u8]) -> bool
 fn is_hex_byte(x: u8) -> bool
     ensures { result ≡ hex_byte x }
 {
-    (b'0' <= x) & (x <= b'9') | (b'A' <= x) & (x <= b'F')
+    x.is_ascii_digit() | (b'A'..=b'F').contains(&x)
 }
 
 // Whether each byte is one of these.
+#[tactic(auto, using(crate::proofs::Scan::hex_step, crate::proofs::Scan::hex_end))]
 fn all_hex(s: &[u8]) -> bool
     ensures { result ≡ all_hex s.now }
 {
@@ -106,6 +110,7 @@ fn all_hex(s: &[u8]) -> bool
 }
 
 // Whether the bytes are a MAC address: 12 of 0-9 or A-F.
+#[tactic(auto, unfolding(rules::specs::Plant::mac_address))]
 pub fn is_mac_address(mac: &[u8]) -> bool
     ensures { result ≡ mac_address mac.now }
 {
@@ -128,6 +133,7 @@ fn narrow(wide: u64) -> u32
 
 impl GivenSettings {
     // Whether each is in range.
+    #[tactic(auto, unfolding(rules::specs::Plant::valid_settings))]
     pub fn valid(self) -> bool
         ensures { result ≡ valid_settings (given_of self) }
     {
@@ -148,18 +154,20 @@ impl GivenSettings {
     }
 }
 
-impl Settings {
-    // The same numbers, as an installer gives them.
-    pub fn widened(self) -> GivenSettings
-        ensures { given_of result ≡ kept_of self }
-    {
+// The same numbers, as an installer gives them.
+impl From<Settings> for GivenSettings {
+    ghost from_gives = { λ settings given. given_of given ≡ kept_of settings };
+
+    fn from(settings: Settings) -> GivenSettings {
         GivenSettings {
-            panel: self.panel as u64,
-            inverter: self.inverter as u64,
-            minutes: self.minutes as u64,
+            panel: settings.panel as u64,
+            inverter: settings.inverter as u64,
+            minutes: settings.minutes as u64,
         }
     }
+}
 
+impl Settings {
     // C, the lesser capacity.
     fn contracted(self) -> u64
         ensures { result ≡ contracted (kept_of self) }
@@ -169,6 +177,7 @@ impl Settings {
 }
 
 // The plant of values that installing accepts.
+#[tactic(auto, using(digits::proofs::Placing::placed_all, crate::proofs::Laws::accepted_kept))]
 fn make(id: &[u8], mac: &[u8], given: GivenSettings) -> Plant
     requires { installing id.now mac.now (given_of given) ≡ Ok tt }
     ensures { result ≡ plant_of id.now mac.now (given_of given) }
@@ -204,6 +213,7 @@ fn refuse(cause: Cause) -> Installed
 
 impl Plant {
     // A plant of these values, or cause 1 or 2.
+    #[tactic(auto, unfolding(rules::specs::Plant::installing, crate::specs::Plant::installed))]
     pub fn install(id: &[u8], mac: &[u8], given: GivenSettings) -> Installed
         ensures { result ≡ installed id.now mac.now (given_of given) }
     {
@@ -220,15 +230,17 @@ impl Plant {
     }
 
     // Whether ID, MAC address and settings are such as install accepts.
+    #[tactic(auto, unfolding(crate::specs::Plant::valid_plant))]
     pub fn valid(self) -> bool
         ensures { result ≡ valid_plant self }
     {
         let id = self.id;
         let mac = self.mac;
-        is_plant_id(&id) & is_mac_address(&mac) & self.settings.widened().valid()
+        is_plant_id(&id) & is_mac_address(&mac) & GivenSettings::from(self.settings).valid()
     }
 
     // p, in percent of the inverter's capacity P, from the rate r, in percent of C; 0 where P is 0.
+    #[tactic(auto, unfolding(rules::specs::Plant::percent), using(crate::proofs::Laws::rate_fits, crate::proofs::Laws::percent_fits))]
     pub fn percent(self, rate: u8) -> u8
         ensures { result ≡ percent (settings_of self) rate }
     {
@@ -240,6 +252,7 @@ impl Plant {
     }
 
     // The command's parts of p percent. Wide, so that they fit for every u32 N.
+    #[tactic(auto, using(crate::proofs::Laws::parts_fit))]
     pub fn parts(self, percent: u8) -> u64
         ensures { result ≡ parts_of (settings_of self) percent }
     {

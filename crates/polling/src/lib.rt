@@ -4,7 +4,8 @@
 ghost use Rattle.std.specs.Prelude.{◌≡◌, cond, ◌<◌};
 ghost use Rattle.rules.specs.Calendar.{day_length};
 ghost use Rattle.rules.specs.Store.{sound_requests, fresh_requests};
-ghost use Rattle.rules.specs.Machine.{update_time, take_update, take_year, failed_update, failed_fixed, failed, is_status, is_client_error, update_wait, refused_wait, window_start, in_window, next_window};
+ghost use Rattle.rules.specs.Machine.{update_time, take_update, take_year, failed_update, failed_fixed, failed, is_status, is_client_error};
+ghost use Rattle.rules.specs.Machine.{update_wait, refused_wait, window_start, in_window, next_window};
 ghost use Rattle.plant.specs.Plant.{kept_of};
 ghost use Rattle.polling.specs.Requests.{requests_of, requests_from};
 ghost use Rattle.polling.specs.Due.{due_for};
@@ -62,6 +63,7 @@ fn wait_after(settings: Settings, status: u64) -> u32
 }
 
 // When the window of a check digit begins, in seconds of the day.
+#[tactic(auto, unfolding(rules::specs::Machine::window_start))]
 fn window_start(digit: u8) -> u32
     ensures exact { result ≡ window_start digit }
     ensures bound { result < day_length }
@@ -70,6 +72,7 @@ fn window_start(digit: u8) -> u32
 }
 
 // Whether a second stands in the window, which may pass midnight.
+#[tactic(auto, unfolding(rules::specs::Machine::in_window))]
 fn in_window(settings: Settings, digit: u8, clock: u32) -> bool
     ensures { result ≡ in_window (kept_of settings) digit clock }
 {
@@ -79,6 +82,7 @@ fn in_window(settings: Settings, digit: u8, clock: u32) -> bool
 }
 
 // The first window start that is later than the clock.
+#[tactic(auto, unfolding(rules::specs::Machine::next_window))]
 fn next_window(digit: u8, clock: u32) -> u64
     ensures { result ≡ next_window digit clock }
 {
@@ -92,6 +96,7 @@ fn next_window(digit: u8, clock: u32) -> u64
 }
 
 // When an update is asked for after a 203: at its next access, whatever the clock.
+#[tactic(auto, unfolding(rules::specs::Machine::update_time))]
 fn update_time(clock: u32, next: u32) -> u64
     ensures { result ≡ update_time clock next }
 {
@@ -113,6 +118,7 @@ impl Requests {
     }
 
     // For a plant with these settings.
+    #[tactic(auto, unfolding(rules::specs::Store::sound_requests))]
     pub fn sound(self, settings: Settings) -> bool
         ensures { result ≡ sound_requests (kept_of settings) (requests_of self) }
     {
@@ -125,6 +131,7 @@ impl Requests {
     }
 
     // After a 203 with its flag and its next access, at the clock.
+    #[tactic(auto, unfolding(rules::specs::Machine::take_update))]
     pub fn take_update(self, clock: u32, flag: u8, next: u32) -> Requests
         ensures { result ≡ requests_from (take_update clock flag next (requests_of self)) }
     {
@@ -142,6 +149,7 @@ impl Requests {
     }
 
     // After a 201 with its segment's last digit.
+    #[tactic(auto, unfolding(rules::specs::Machine::take_year))]
     pub fn take_year(self, digit: u8) -> Requests
         ensures { result ≡ requests_from (take_year digit (requests_of self)) }
     {
@@ -153,6 +161,7 @@ impl Requests {
         }
     }
 
+    #[tactic(auto, unfolding(rules::specs::Machine::failed_update))]
     fn failed_update(self, settings: Settings, clock: u32, status: u64) -> Requests
         ensures { result ≡ requests_from (failed_update (kept_of settings) clock status (requests_of self)) }
     {
@@ -162,6 +171,7 @@ impl Requests {
         }
     }
 
+    #[tactic(auto, unfolding(rules::specs::Machine::failed_fixed))]
     fn failed_fixed(self, settings: Settings, digit: u8, clock: u32, status: u64) -> Requests
         ensures { result ≡ requests_from (failed_fixed (kept_of settings) digit clock status (requests_of self)) }
     {
@@ -182,6 +192,7 @@ impl Requests {
     }
 
     // After a failure of that kind and status, for a plant with these settings and that check digit.
+    // Six parameters: a struct is no plainer: they come from the plant, the call and the clock, and it would be built for one call.
     pub fn failed(
         self,
         settings: Settings,
@@ -199,6 +210,7 @@ impl Requests {
     }
 
     // What is due, for a plant with these settings and that check digit.
+    #[tactic(auto, unfolding(crate::specs::Due::due_for))]
     pub fn due(self, settings: Settings, digit: u8, clock: u32) -> Option<Due>
         ensures { result ≡ due_for (kept_of settings) digit clock (requests_of self) }
     {
@@ -208,9 +220,7 @@ impl Requests {
         }
         let wanted = self.wanted_flag;
         let asked = (wanted != NO_FLAG) & (wanted != self.held_flag) & (self.fixed_at <= now);
-        if asked & ((0 < self.failures) | in_window(settings, digit, clock)) {
-            return Some(Due::Fixed(wanted));
-        }
-        None
+        let open = (0 < self.failures) | in_window(settings, digit, clock);
+        (asked & open).then_some(Due::Fixed(wanted))
     }
 }

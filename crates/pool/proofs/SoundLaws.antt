@@ -180,7 +180,8 @@ distinct-down (suc n) k p l e =
     go false d = (both (not (member (month_of p n) (months_of (held_below n p)))) (distinct (months_of (held_below n p))) d).1
 
 -- a month does not stand in the list below its own block
-once : (p : Pool) (b : ℕ) → is_free p b ≡ false → distinct (months_of (held_below (suc b) p)) ≡ true → member (month_of p b) (months_of (held_below b p)) ≡ false
+once : (p : Pool) (b : ℕ) → is_free p b ≡ false → distinct (months_of (held_below (suc b) p)) ≡ true
+    → member (month_of p b) (months_of (held_below b p)) ≡ false
 unfolding held_below distinct
 once p b u e = not-true _ (both (not (member (month_of p b) (months_of (held_below b p)))) (distinct (months_of (held_below b p))) (rw u at e)).0
 

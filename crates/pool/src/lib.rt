@@ -18,30 +18,24 @@ pub struct Pool {
 // The map of blocks that are all free.
 pub const ALL_FREE: u16 = ((1u64 << BLOCK_COUNT) - 1) as u16;
 
+// The pool that a call hands back with its answer, as 01 has it of the unit: the block that was taken, if one was free.
 #[derive(Clone, Copy)]
 pub struct Taken {
     pub pool: Pool,
     pub place: Option<usize>,
 }
 
-// A test as the binary digit b.
-fn digit(t: bool, b: usize) -> u16
-    requires { b < block_count }
-    ensures { result ≡ tick t * 2 ^ b }
-{
-    (t as u16) << b
-}
-
 // Keys of free blocks are from here on.
 const FREE_KEYS: u16 = MONTH_COUNT;
 
 // How many blocks have the key. It looks at each, so that it vectorises.
+#[tactic(auto, using(crate::proofs::BelowLaws::count_step, crate::proofs::BelowLaws::count_le), unfolding(crate::specs::Below::sum_below))]
 fn same_keys(keys: [u16; BLOCK_COUNT], key: u16) -> u16
     ensures { result ≡ count_below block_count (λ c. eqb (get_or keys c 0) key) }
 {
     let mut count: u16 = 0;
-    for other in keys.iter() {
-        count += (*other == key) as u16;
+    for other in keys {
+        count += u16::from(other == key);
     }
     count
 }
@@ -50,32 +44,27 @@ fn same_keys(keys: [u16; BLOCK_COUNT], key: u16) -> u16
 const OWN_PAIRS: u16 = BLOCK_COUNT as u16;
 
 // How many pairs of two blocks, or of a block and itself, have one key.
+#[tactic(auto, using(crate::proofs::BelowLaws::pairs_none, crate::proofs::BelowLaws::pairs_step, crate::proofs::BelowLaws::count_le))]
 fn pairs(keys: [u16; BLOCK_COUNT]) -> u16
     ensures { result ≡ pairs_below block_count (λ c. get_or keys c 0) }
 {
     let mut count: u16 = 0;
-    for key in keys.iter() {
-        count += same_keys(keys, *key);
+    for key in keys {
+        count += same_keys(keys, key);
     }
     count
 }
 
 impl Pool {
     // Whether block b is free. No block from BLOCK_COUNT on is, and the map has no bit to shift to there.
+    #[tactic(auto, using(crate::proofs::BelowLaws::bit_past))]
     pub fn is_free(self, b: usize) -> bool
         ensures { result ≡ is_free self b }
     {
         b < BLOCK_COUNT && (self.free >> b) % 2 == 1
     }
 
-    // Whether block b is used and has the month.
-    fn holds_month(self, month: u16, b: usize) -> bool
-        requires { b < block_count }
-        ensures { result ≡ holds self month b }
-    {
-        !self.is_free(b) & (self.months[b] == month)
-    }
-
+    #[tactic(auto, using(crate::proofs::BelowLaws::ones_count), unfolding(crate::specs::Blocks::free_count))]
     pub fn free_count(self) -> u32
         ensures { result ≡ free_count self }
     {
@@ -86,12 +75,11 @@ impl Pool {
     pub fn find(self, month: u16) -> Option<usize>
         ensures { result ≡ find_of self month }
     {
-        for b in 0..BLOCK_COUNT {
-            if self.holds_month(month, b) {
-                return Some(b);
-            }
-        }
-        None
+        self.months
+            .iter()
+            .enumerate()
+            .find(|&(b, &own)| !self.is_free(b) & (own == month))
+            .map(|(b, _)| b)
     }
 
     // Gives the lowest free block to the month.
@@ -114,40 +102,26 @@ impl Pool {
         }
     }
 
-    // Whether block b is free once the months below floor are gone.
-    fn free_after(self, floor: u16, b: usize) -> bool
-        requires { b < block_count }
-        ensures { result ≡ free_after self floor b }
-    {
-        self.is_free(b) | (self.months[b] < floor)
-    }
-
     // Frees every used block whose month is below floor.
+    #[tactic(auto, using(crate::proofs::BelowLaws::digit_steps), unfolding(crate::specs::Blocks::release_of, crate::specs::Below::sum_below))]
     pub fn release_below(self, floor: u16) -> Pool
         ensures { result ≡ release_of self floor }
     {
         let mut free: u16 = 0;
-        for b in 0..BLOCK_COUNT {
-            free += digit(self.free_after(floor, b), b);
+        for (b, &month) in self.months.iter().enumerate() {
+            free += u16::from(self.is_free(b) | (month < floor)) << b;
         }
         Pool { free, ..self }
     }
 
-    // Whether block b is free, or has a month between floor and the last one.
-    fn in_range(self, floor: u16, b: usize) -> bool
-        requires { b < block_count }
-        ensures { result ≡ in_range self floor b }
-    {
-        let month = self.months[b];
-        self.is_free(b) | (floor <= month) & (month <= LAST_MONTH)
-    }
-
+    // Whether each block is free, or has a month between floor and the last one. It looks at each, so that it vectorises.
+    #[tactic(auto, using(crate::proofs::BelowLaws::all_none, crate::proofs::BelowLaws::all_step))]
     fn all_in_range(self, floor: u16) -> bool
         ensures { result ≡ all_below block_count (in_range self floor) }
     {
         let mut good = true;
-        for b in 0..BLOCK_COUNT {
-            good = self.in_range(floor, b) & good;
+        for (b, &month) in self.months.iter().enumerate() {
+            good = (self.is_free(b) | (floor <= month) & (month <= LAST_MONTH)) & good;
         }
         good
     }
@@ -164,14 +138,11 @@ impl Pool {
         }
     }
 
+    #[tactic(auto, using(crate::proofs::FindLaws::made_at))]
     fn keys(self) -> [u16; BLOCK_COUNT]
         ensures { KeysOf self result }
     {
-        let mut keys = [0u16; BLOCK_COUNT];
-        for (b, key) in keys.iter_mut().enumerate() {
-            *key = self.key(b);
-        }
-        keys
+        std::array::from_fn(|b| self.key(b))
     }
 
     // Each block has its own key where it has it with itself alone.

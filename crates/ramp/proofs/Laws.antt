@@ -1,7 +1,7 @@
 -- The laws of the command over the seconds of a tick: it splits at any second, reads only the slots of its seconds, stays legal, and
 -- stands on a slot's goal after the whole of it.
 use Rattle.std.specs.Prelude.{Some, None, Option}
-use Prim.Native.Nat.{ℕ, zero, suc, ◌+◌, ◌-◌, ◌*◌, ◌≤◌, ◌<◌, min, max, zero-le}
+use Prim.Native.Nat.{ℕ, zero, suc, ◌+◌, ◌-◌, ◌*◌, ◌^◌, ◌≤◌, ◌<◌, min, max, zero-le}
 use native.Mathlib.Nat.{add-zero, zero-add, add-suc, suc-add, le_trans}
 use native.Mathlib.Omega.{arith}
 use mathlib.Core.Path.{◌≡◌, refl, sym, ap, ap₂, ◌∙◌}
@@ -38,6 +38,14 @@ moved_down goal n x h = go (leb x goal) refl
     go : (t : Bool) → leb x goal ≡ t → cond t (min goal (x + 100 * n)) (max goal (x - 100 * n)) ≡ max goal (x - 100 * n)
     go true e = omega (arith, leb-true x goal e)
     go false e = refl
+
+-- both ways at once, with numbers of 64 bits
+pub clamped : (goal n x : ℕ) → goal < 2 ^ 64 → max (x - 100 * n) (min goal (min (x + 100 * n) (2 ^ 64 - 1))) ≡ moved goal n x
+clamped goal n x h = go (leb x goal) refl
+  where
+    go : (t : Bool) → leb x goal ≡ t → max (x - 100 * n) (min goal (min (x + 100 * n) (2 ^ 64 - 1))) ≡ moved goal n x
+    go true e = let k = leb-true x goal e in omega (arith, moved_up goal n x k)
+    go false e = let k = leb-false x goal e in omega (arith, moved_down goal n x (omega arith))
 
 pub moved_none : (goal x : ℕ) → moved goal 0 x ≡ x
 moved_none goal x = go (leb x goal) refl
@@ -110,7 +118,8 @@ module _ (s : Settings) (p : Pool) (store : List ℕ) where
       (λ t a b. let e : slot_of t ≡ slot = omega arith in ap (goal_of s p store) e)
 
   -- the command stays below what bounds its start and every goal that it meets
-  pub command_over-most : (most n c x : ℕ) → x ≤ most → ((t : ℕ) → c < t → t ≤ c + n → goal_of s p store (slot_of t) ≤ most) → command_over s p store n c x ≤ most
+  pub command_over-most : (most n c x : ℕ) → x ≤ most → ((t : ℕ) → c < t → t ≤ c + n → goal_of s p store (slot_of t) ≤ most)
+      → command_over s p store n c x ≤ most
   unfolding command_over
   command_over-most most zero c x h g = h
   command_over-most most (suc n) c x h g =
@@ -275,3 +284,8 @@ module _ (plant : Plant) (p : Pool) (store : List ℕ) (clock until x : ℕ) whe
       → command_after plant p store clock until x ≡ command_over (settings_of plant) p store (until - clock) clock x
   unfolding command_after
   after-over m h = rw (le-leb plant.settings.minutes 10 m, le-leb x 60000 h) refl
+
+-- what a goal, and the command after a tick, take
+pub ruleset goal_steps = (goal_rated, goal-none)
+
+pub ruleset after_steps = (after-no-second, after-long-ramp, after-high-command, after-over)

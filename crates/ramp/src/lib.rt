@@ -1,4 +1,5 @@
-// The command over the seconds of a tick: at once over a slot, and over the slots between only by the last of them, so that a long tick costs what a short one costs.
+// The command over the seconds of a tick: at once over a slot, and over the slots between only by the last of them, so that a long tick
+// costs what a short one costs.
 #![tactic(auto)]
 
 ghost use Rattle.std.specs.Prelude.{◌≡◌, ◌+◌, ◌-◌, ◌*◌};
@@ -20,26 +21,16 @@ const MOST_MINUTES: u32 = 10;
 const MOST_COMMAND: u32 = 6000 * MOST_MINUTES;
 
 // So many seconds toward one goal.
+#[tactic(auto, using(crate::proofs::Laws::clamped))]
 fn toward(goal: u64, seconds: u32, command: u64) -> u64
     ensures { result ≡ moved goal seconds command }
 {
     let most = STEP * (seconds as u64);
-    if command <= goal {
-        if goal - command <= most {
-            goal
-        } else {
-            command + most
-        }
-    } else {
-        if command - goal <= most {
-            goal
-        } else {
-            command - most
-        }
-    }
+    goal.clamp(command.saturating_sub(most), command.saturating_add(most))
 }
 
 // The parts that the command goes to in a slot: those of its ceiling; 'no rate counts as r = 0'.
+#[tactic(auto, using(crate::proofs::Laws::goal_steps))]
 fn goal_of(plant: Plant, pool: Pool, store: &[u8], slot: u32) -> u64
     ensures { result ≡ goal_of (settings_of plant) pool store.now slot }
 {
@@ -57,6 +48,7 @@ fn in_slot(plant: Plant, pool: Pool, store: &[u8], slot: u32, seconds: u32, comm
 }
 
 // The whole slots between two: after one the command stands on its goal, so that only the last of them counts.
+#[tactic(auto, using(crate::proofs::Laws::between_none))]
 fn between(plant: Plant, pool: Pool, store: &[u8], first: u32, last: u32, command: u64) -> u64
     requires { InReach plant.settings.minutes first last command }
     ensures { result ≡ command_over (settings_of plant) pool store.now (slot_length * (last - first - 1)) (last_second first) command }
@@ -94,6 +86,7 @@ fn over(plant: Plant, pool: Pool, store: &[u8], clock: u32, until: u32, command:
 
 // The command after a tick from clock to until, from what the pool and the store say before it.
 // Plant, pool and store apart here and above: tried a struct of them: the proof didn't close: that a store in a struct holds bytes, which bounds each goal.
+#[tactic(auto, using(crate::proofs::Laws::after_steps))]
 pub fn command_after(
     plant: Plant,
     pool: Pool,

@@ -1,25 +1,18 @@
 -- Laws of a body that stands: what its tests say, and that it is a body that parses.
 use Rattle.std.specs.Prelude.{None, Some}
-use Prim.Native.Nat.{ℕ, ◌-◌}
+use Prim.Native.Nat.{ℕ}
 use mathlib.Core.Path.{◌≡◌, ◌∙◌, refl}
-use mathlib.Core.Bool.{Bool, true, false, cond}
+use mathlib.Core.Bool.{true, false, cond}
 use mathlib.Core.List.{List}
-use lib.ListN.{length, take, drop}
+use lib.ListN.{drop}
 use Rattle.rules.specs.Body.{Record, schedule, count_of, parse_body, counted, is_schedule}
 use Rattle.rules.specs.declared.Format.{Format}
 use Rattle.laws.proofs.Tests.{both}
-use Rattle.laws.proofs.Bytes.{part-rest}
 use Rattle.form.specs.Walk.{shaped, records_from}
 use Rattle.form.proofs.Standing.{parse_is}
 use Rattle.records.specs.Standing.{standing, Stands}
 
 module _ (f : Format) (body : List ℕ) where
-  pub not-counted : counted f body ≡ false → false ≡ standing f body
-  not-counted e = rw e refl
-
-  pub is-standing : {b : Bool} → counted f body ≡ true → b ≡ shaped f (count_of f) (take (length body - 6) (drop 6 body)) → b ≡ standing f body
-  is-standing c e = e ∙ rw (part-rest body 6, c) refl
-
   pub stands_facts : standing f body ≡ true → Stands f body
   stands_facts e =
       let b = both (counted f body) (shaped f (count_of f) (drop 6 body)) e in

@@ -10,7 +10,8 @@ use lib.ListN.{length, get_or, take, drop}
 use lib.Seq.{drop-drop}
 use borrow.Author.Tests.{ltb-true, ltb-false, lt-ltb, le-ltb}
 use Rattle.rules.specs.Digits.{part, all_digits}
-use Rattle.rules.specs.Body.{Record, Body, schedule, registration, count_of, tail_digits, rates_of, record_at, counted, parse_registration, parse_body, is_schedule}
+use Rattle.rules.specs.Body.{Record, Body, schedule, registration, count_of, tail_digits}
+use Rattle.rules.specs.Body.{rates_of, record_at, counted, parse_registration, parse_body, is_schedule}
 use Rattle.rules.specs.Table.{need}
 use Rattle.rules.specs.declared.Cause.{Cause}
 use Rattle.rules.specs.declared.Format.{Format}

@@ -1,23 +1,24 @@
 -- Laws of the rates of records end to end, put into a buffer one record after the other.
-use Rattle.std.specs.Prelude.{Ok, Err}
-use Prim.Native.Nat.{ℕ, suc, ◌+◌, ◌-◌, ◌*◌, ◌≤◌, ◌<◌}
+use Rattle.std.specs.Prelude.{Ok, Err, None, Some}
+use Prim.Native.Nat.{ℕ, ◌+◌, ◌-◌, ◌*◌, ◌≤◌, ◌<◌}
 use mathlib.Core.Path.{◌≡◌, ◌∙◌, refl, sym, ap}
 use mathlib.Core.Bool.{true, false}
 use mathlib.Core.List.{List, [], ◌∷◌, ◌++◌}
 use native.Mathlib.Omega.{arith}
 use lib.ListN.{length, take, drop, length-append}
-use Rattle.rules.specs.Body.{Record, count_of, tail_digits, rates_of, size_of, record_at, is_schedule}
+use Rattle.rules.specs.Body.{Record, count_of, tail_digits, is_schedule}
 use Rattle.rules.specs.Lister.{total_rates}
 use Rattle.rules.specs.Writer.{Output, refuse, fitting, written_of, buffer_after}
 use Rattle.rules.specs.declared.Cause.{Cause}
 use Rattle.rules.specs.declared.Format.{Format}
-use Rattle.laws.proofs.Bytes.{part_length, part-rest}
+use Rattle.laws.proofs.Bytes.{part-rest}
 use Rattle.digits.specs.Placed.{placed}
-use Rattle.digits.proofs.Parts.{part-to}
 use Rattle.digits.proofs.Placing.{placed-none, placed-next, no_room, with-room}
-use Rattle.layout.specs.Records.{count_at}
-use Rattle.form.specs.Walk.{shaped, records_from, Whole}
-use Rattle.form.proofs.Walk.{whole-first, within, rates-here, size-here, shaped-rest, records-end, records-step}
+use Rattle.layout.specs.Walk.{Goes}
+use Rattle.layout.specs.declared.walk.Parts.{Parts}
+use Rattle.layout.specs.declared.walk.Records.{Records}
+use Rattle.form.specs.Walk.{shaped, records_from, records_left}
+use Rattle.form.proofs.Turns.{records-over, records-turn, begins-records}
 use Rattle.form.proofs.Standing.{rates-total}
 use Rattle.about_files.specs.Writing.{end_to_end}
 use Rattle.records.specs.Standing.{standing, RatesRoom}
@@ -56,72 +57,35 @@ rates-left f s x e x≡ =
     let j = joined_length (records_from f (count_of f) s) in
     (omega (arith, t.0), omega (arith, t.0))
 
--- ---- a loop that puts record after record: `left` records stand in t, the rates of the next one are put at `place`
-pub record Going (f : Format) (s before out : List ℕ) (left place : ℕ) (t : List ℕ) : Type 0 where
-  pub form : shaped f left t ≡ true
-  pub enough : place + length (end_to_end (records_from f left t)) ≤ length out
-  pub rest : placed out place (end_to_end (records_from f left t)) ≡ placed before 0 (end_to_end (records_from f (count_of f) s))
+-- ---- a loop that puts record after record: those that w has left are put at `place`
+pub record Going (all : List Record) (before out : List ℕ) (place : ℕ) (w : Records) : Type 0 where
+  pub enough : place + length (end_to_end (records_left w)) ≤ length out
+  pub rest : placed out place (end_to_end (records_left w)) ≡ placed before 0 (end_to_end all)
 
-pub going_start : (f : Format) (s before : List ℕ) {left : ℕ} → RatesRoom f s (length before) → left ≡ count_of f → Going f s before before left 0 s
-going_start f s before h e = rw e (record { form = h.records; enough = omega (arith, h.enough); rest = refl })
+pub going_start : (f : Format) (s before : List ℕ) (w : Records) → RatesRoom f s (length before) → w.format ≡ f → w.left ≡ count_of f → w.rest.now ≡ s
+    → Going (records_from f (count_of f) s) before before 0 w
+going_start f s before w h f≡ k≡ s≡ =
+    let e = begins-records w f≡ k≡ s≡ h.records in
+    record { enough = rw e (omega (arith, h.enough)); rest = rw e refl }
 
-module _ (f : Format) (s before out : List ℕ) (left place : ℕ) (t : List ℕ) (g : Going f s before out left place t) where
-  pub going_end : left ≤ 0 → out ≡ placed before 0 (end_to_end (records_from f (count_of f) s))
-  going_end h = sym (placed-none out place) ∙ rw (records-end f t left h) at g.rest
+module _ (all : List Record) (before out : List ℕ) (place : ℕ) (w t : Records) (g : Going all before out place w) where
+  pub going_end : Goes w None t → out ≡ placed before 0 (end_to_end all)
+  going_end h = sym (placed-none out place) ∙ rw (records-over w t h) at g.rest
 
-  -- one of those that are left, and k after it
-  module _ (k : ℕ) (one : left ≡ suc k) where
-    here-whole : Whole f t
-    here-whole = whole-first f t left (omega arith) g.form
+  module _ (p : Parts) (h : Goes w (Some p) t) where
+    split : end_to_end (records_left w) ≡ p.rates.now ++ end_to_end (records_left t)
+    split = ap end_to_end (records-turn w t p h)
 
-    module _ (n : ℕ) (c : n ≡ count_at t) where
-      n≡ : n ≡ rates_of t
-      n≡ = rates-here f t c here-whole
+    pub rates-room : place + length p.rates.now ≤ length out
+    rates-room = omega (arith, ap length split, g.enough, length-append p.rates.now (end_to_end (records_left t)))
 
-      pub rates-inside : 53 + n ≤ length t
-      rates-inside = omega (arith, here-whole.room, n≡)
-
-      -- the rates of the record at the front of t
-      abbrev these : List ℕ
-      these = take (53 + n - 53) (drop 53 t)
-
-      these_are : these ≡ (record_at f t).rates
-      unfolding record_at
-      these_are = part-to t 53 n ∙ rw n≡ refl
-
-      first-split : {z : ℕ} → z ≡ size_of f t
-          → end_to_end (records_from f left t) ≡ these ++ end_to_end (records_from f k (take (length t - z) (drop z t)))
-      first-split {z} z≡ =
-          ap end_to_end (records-step f t left one z≡)
-          ∙ ap (λ (x : List ℕ). x ++ end_to_end (records_from f k (take (length t - z) (drop z t)))) (sym these_are)
-
-      these-long : length these ≡ n
-      these-long = ap length (part-to t 53 n) ∙ part_length t 53 n rates-inside
-
-      pub rates-room : place + n ≤ length out
-      rates-room =
-          let e = ap length (first-split refl) in
-          omega (arith, these-long, g.enough, length-append these (end_to_end (records_from f k (take (length t - size_of f t) (drop (size_of f t) t)))))
-
-      module _ (tail : ℕ) (tail≡ : tail ≡ tail_digits f) where
-        size_is : 53 + n + tail ≡ size_of f t
-        size_is = size-here f t c tail≡ here-whole
-
-        pub next-inside : 53 + n + tail ≤ length t
-        next-inside = within f t here-whole size_is
-
-        pub going_next : {o : List ℕ} → length o ≡ length out → o ≡ placed out place these
-            → Going f s before o k (place + n) (take (length t - (53 + n + tail)) (drop (53 + n + tail) t))
-        going_next {o} len q =
-            let z = 53 + n + tail in
-            let others = end_to_end (records_from f k (take (length t - z) (drop z t))) in
-            let split = first-split size_is in
-            let e = ap length split in
-            record {
-              form = shaped-rest f t left one size_is g.form;
-              enough = omega (arith, these-long, g.enough, length-append these others);
-              rest = placed-next out these others place q (omega (arith, these-long)) ∙ ap (placed out place) (sym split) ∙ g.rest;
-            }
+    pub going_next : {o : List ℕ} → length o ≡ length out → o ≡ placed out place p.rates.now → Going all before o (place + length p.rates.now) t
+    going_next {o} len q =
+        let others = end_to_end (records_left t) in
+        record {
+          enough = omega (arith, ap length split, g.enough, length-append p.rates.now others);
+          rest = placed-next out p.rates.now others place q (omega (arith, rates-room)) ∙ ap (placed out place) (sym split) ∙ g.rest;
+        }
 
 -- ---- the rates of a body that stands, into a buffer: x is the bytes of the other fields
 module _ (f : Format) (body before : List ℕ) (i : is_schedule f ≡ true) (t : standing f body ≡ true) (x : ℕ) (x≡ : x ≡ count_of f * (53 + tail_digits f)) where

@@ -5,7 +5,7 @@ use mathlib.Core.List.{List}
 use native.Mathlib.Numerals.{add-one}
 use native.Mathlib.Omega.{arith}
 use lib.ListN.{length, take, drop}
-use Rattle.rules.specs.Body.{count_of, flag_digits, tail_digits, rates_of, size_of}
+use Rattle.rules.specs.Body.{count_of, tail_digits, rates_of, size_of}
 use Rattle.rules.specs.declared.Format.{Format}
 use Rattle.laws.proofs.Bytes.{part-rest}
 use Rattle.layout.specs.Records.{count_at, size_at}
@@ -14,18 +14,11 @@ use Rattle.form.proofs.Walk.{rates-here, size_is}
 use Rattle.form.proofs.Standing.{record-whole, rates-within}
 use Rattle.records.specs.declared.Places.{Places}
 use Rattle.records.specs.Standing.{Stands}
-use Rattle.records.specs.Locating.{only_update, places_of, places_at}
+use Rattle.records.specs.Locating.{places_of, places_at}
 
 pub first-place : (f : Format) (body : List ℕ) → 6 ≡ record_start f body 0
 unfolding record_start
 first-place f body = refl
-
--- the places, from what `only_update` and `flag_digits` give
-pub places-are : (f : Format) (at n : ℕ) {d g x : ℕ} → d ≡ flag_digits f → g ≡ only_update f (at + 53 + n) → x ≡ only_update f (at + 53 + n + d + 2)
-    → ◌≡◌ {A = Places}
-    (record { schedule = at; plant = at + 10; start = at + 36; rates = at + 53; count = n; flag = g; checksum = at + 53 + n + d; next = x })
-    (places_of f at n)
-places-are f at n d≡ g≡ x≡ = rw (x≡, g≡, d≡) refl
 
 -- the walk is at `at`, where record k begins
 module _ (f : Format) (body : List ℕ) (s : Stands f body) (at k : ℕ) (here : at ≡ record_start f body k) (h : k < count_of f) where

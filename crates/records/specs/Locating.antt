@@ -1,4 +1,5 @@
 -- Where the fields of a record stand in its body.
+use Rattle.std.specs.Option.{unwrap_or}
 use Rattle.std.specs.Prelude.{ℕ, ◌+◌, ◌≡◌, Bool, true, false, List, ltb, drop, Result, Ok, Err, Option, None, Some}
 use Rattle.rules.specs.Body.{Body, count_of, flag_digits, next_digits, rates_of, is_schedule, parse_body}
 use Rattle.rules.specs.Table.{need}
@@ -11,12 +12,12 @@ use Rattle.records.specs.declared.Places.{Places}
 use Rattle.records.specs.declared.Field.{Field}
 use Rattle.records.specs.declared.Field.TheVariants.{Schedule, Plant, Start, Rates, Flag, Checksum, Next}
 
--- 'for 203 a flag digit', 'for 203 next access': the place n for 203, else 0
-abbrev pub only_update : Format → ℕ → ℕ
-only_update F201 n = 0
-only_update F202 n = 0
-only_update F203 n = n
-only_update F301 n = 0
+-- 'for 203 a flag digit', 'for 203 next access': the place n for 203, else none
+abbrev pub only_update : Format → ℕ → Option ℕ
+only_update F201 n = None
+only_update F202 n = None
+only_update F203 n = Some n
+only_update F301 n = None
 
 -- 'schedule ID 10 digits, plant ID 26, start YYYYMMDDhhmm 12, rate count n 5, n rates, then for 203 a flag digit, then checksum
 -- 2 digits, then for 203 next access': a record that begins at `at` and has n rates
@@ -48,15 +49,15 @@ locate f body i =
     (need (parses (parse_body f body)) (Err Cause.Form)
     (Ok (places_at f body i))))
 
--- the place and the length of a field
+-- the place and the length of a field; a field that there is not is the empty part at 0
 abbrev pub from : Field → Places → ℕ
 from Schedule p = p.schedule
 from Plant p = p.plant
 from Start p = p.start
 from Rates p = p.rates
-from Flag p = p.flag
+from Flag p = unwrap_or p.flag 0
 from Checksum p = p.checksum
-from Next p = p.next
+from Next p = unwrap_or p.next 0
 
 abbrev pub size : Field → Format → Places → ℕ
 size Schedule f p = schedule_digits

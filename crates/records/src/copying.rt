@@ -6,7 +6,7 @@ ghost use Rattle.form.specs.Walk.{records_from};
 ghost use Rattle.about_files.specs.Writing.{end_to_end};
 ghost use Rattle.records.specs.Standing.{RatesRoom};
 
-use layout::RATES;
+use layout::Records;
 use rules::Format;
 
 // The rates of the records that stand in `s`, from the buffer's first byte on.
@@ -15,13 +15,8 @@ pub(crate) fn put_rates(format: Format, s: &[u8], out: &mut [u8])
     ensures { out.new ≡ placed out.old 0 (end_to_end (records_from format (count_of format) s.now)) }
 {
     let mut place = 0;
-    let mut t = s;
-    for _ in 0..layout::record_count(format) {
-        let count = layout::rate_count(t) as usize;
-        let end = RATES + count;
-        digits::put(out, place, &t[RATES..end]);
-        place += count;
-        let next = end + layout::tail_digits(format);
-        t = &t[next..];
+    for parts in Records::new(format, layout::record_count(format), s) {
+        digits::put(out, place, parts.rates);
+        place += parts.rates.len();
     }
 }

@@ -12,7 +12,7 @@ ghost use Rattle.records.specs.Reading.{field_in, record_in, rates_output};
 
 use rules::{Cause, Format};
 
-// Where in its body the fields of a record begin, and how many rates it has. A 201 or 202 has no flag and no next access: 0.
+// Where in its body the fields of a record begin, and how many rates it has. A 201 or 202 has no flag and no next access.
 #[derive(Clone, Copy)]
 pub struct Places {
     pub schedule: usize,
@@ -20,9 +20,9 @@ pub struct Places {
     pub start: usize,
     pub rates: usize,
     pub count: usize,
-    pub flag: usize,
+    pub flag: Option<usize>,
     pub checksum: usize,
-    pub next: usize,
+    pub next: Option<usize>,
 }
 
 // A field of a record.
@@ -93,7 +93,7 @@ fn part_of(field: Field, format: Format, places: Places) -> Part
             size: places.count,
         },
         Field::Flag => Part {
-            from: places.flag,
+            from: places.flag.unwrap_or(0),
             size: layout::flag_digits(format),
         },
         Field::Checksum => Part {
@@ -101,7 +101,7 @@ fn part_of(field: Field, format: Format, places: Places) -> Part
             size: layout::CHECKSUM_DIGITS,
         },
         Field::Next => Part {
-            from: places.next,
+            from: places.next.unwrap_or(0),
             size: layout::next_digits(format),
         },
     }

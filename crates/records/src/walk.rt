@@ -7,16 +7,11 @@ ghost use Rattle.records.specs.Locating.{only_update, places_of, places_at};
 use crate::Places;
 use rules::Format;
 
-// n for 203, which alone has a flag and a next access; else 0.
-fn only_update(format: Format, n: usize) -> usize
+// The place n for 203, which alone has a flag and a next access.
+fn only_update(format: Format, n: usize) -> Option<usize>
     ensures { result ≡ only_update format n }
 {
-    match format {
-        Format::F201 => 0,
-        Format::F202 => 0,
-        Format::F203 => n,
-        Format::F301 => 0,
-    }
+    (format == Format::F203).then_some(n)
 }
 
 // The fields of a record that begins at `at` and has n rates.
@@ -38,7 +33,7 @@ fn places_of(format: Format, at: usize, n: usize) -> Places
     }
 }
 
-// The fields of record `index`.
+// The fields of record `index`. A walk of its own: it goes by places in the body, which the records of `layout` do not know.
 pub(crate) fn places_in(format: Format, body: &[u8], index: usize) -> Places
     requires { Stands format body.now × (index < count_of format) }
     ensures { result ≡ places_at format body.now index }

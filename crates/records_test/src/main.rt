@@ -22,14 +22,11 @@ fn told(rt: &impl Print, what: &str, same: bool) {
 
 // Whether `out` begins with the bytes of `body`, and they are as many as were written.
 fn begins(written: Result<usize, Cause>, out: &[u8], body: &[u8]) -> bool {
-    match written {
-        Ok(n) if n <= out.len() => digits::same(&out[..n], body),
-        _ => false,
-    }
+    written.is_ok_and(|n| n <= out.len() && digits::same(&out[..n], body))
 }
 
 // Whether a body is itself when it is written again from its parts.
-fn is_itself(format: Format, number: u32, flag: u32, body: &[u8]) -> bool {
+fn is_itself(format: Format, flag: u32, body: &[u8]) -> bool {
     let mut rates = [0u8; MOST_RATES];
     let mut out = [0u8; 20480];
     let Ok(n) = records::copy_rates(format, body, &mut rates) else {
@@ -39,7 +36,7 @@ fn is_itself(format: Format, number: u32, flag: u32, body: &[u8]) -> bool {
         return false;
     }
     let fields = Fields {
-        format: number,
+        format: Some(format),
         plant: records::field_part(Field::Plant, format, body, 0),
         schedule: records::field_part(Field::Schedule, format, body, 0),
         start: records::field_part(Field::Start, format, body, 0),
@@ -51,7 +48,7 @@ fn is_itself(format: Format, number: u32, flag: u32, body: &[u8]) -> bool {
     begins(written, &out, body)
 }
 
-// Whether a field of record `index` has these bytes.
+// Whether a field of record `index` has these bytes. A struct would be no plainer: it would be built for this call alone.
 fn compare(
     rt: &impl Print,
     what: &str,
@@ -98,11 +95,11 @@ fn update(rt: &impl Print) {
         b"\x01\x08",
     );
     compare(rt, "next access", Field::Next, format, body, 0, next);
-    told(rt, "body of 203", is_itself(format, 203, 2, body));
+    told(rt, "body of 203", is_itself(format, 2, body));
     told(
         rt,
         "body of 203 with another flag",
-        is_itself(format, 203, 3, body),
+        is_itself(format, 3, body),
     );
 }
 
@@ -113,7 +110,7 @@ fn year(rt: &impl Print) {
     let rates = [55u8; 18960];
     let mut body = [0u8; 19681];
     let fields = Fields {
-        format: 201,
+        format: Some(Format::F201),
         plant: &PLANT,
         schedule: &SCHEDULE,
         start,
@@ -143,7 +140,7 @@ fn year(rt: &impl Print) {
         13,
         last,
     );
-    told(rt, "body of 201", is_itself(format, 201, 0, &body));
+    told(rt, "body of 201", is_itself(format, 0, &body));
 }
 
 fn main(rt: HostRuntime) {

@@ -22,12 +22,9 @@ impl<'a> Reader<'a> {
     // A part of a line behind what stands in the buffer already. 'A line up to 65,536 bytes without its 0A is read', as many as the buffer has;
     // what does not fit makes the line too long.
     fn gather(&mut self, part: &[u8]) {
-        let Some(length) = self.length else {
-            return;
-        };
-        let end = script_fields::put_text(self.line, length, part);
-        let fits = (length < end) | part.is_empty();
-        self.length = fits.then_some(end);
+        if let Some(length) = self.length {
+            self.length = script_fields::put_text(self.line, length, part);
+        }
     }
 
     // The line's answer; the next line begins.

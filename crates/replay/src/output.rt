@@ -16,15 +16,15 @@ impl<'a> Output<'a> {
     }
 
     pub(crate) fn text(&mut self, text: &[u8]) {
-        self.at = script_fields::put_text(self.bytes, self.at, text);
+        self.at = script_fields::put_text(self.bytes, self.at, text).unwrap_or(self.at);
     }
 
     pub(crate) fn number(&mut self, n: u64) {
-        self.at = script_fields::put_number(self.bytes, self.at, n);
+        self.at = script_fields::put_number(self.bytes, self.at, n).unwrap_or(self.at);
     }
 
     pub(crate) fn hex(&mut self, bytes: &[u8]) {
-        self.at = script_fields::put_hex(self.bytes, self.at, bytes);
+        self.at = script_fields::put_hex(self.bytes, self.at, bytes).unwrap_or(self.at);
     }
 
     // A word and a number.

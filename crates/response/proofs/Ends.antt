@@ -1,18 +1,17 @@
--- Laws of the boundary and of the bytes that it stands in: the first line, and what closes the file.
+-- Laws of the boundary, and of what closes the file.
 use Rattle.std.specs.Prelude.{Option, None, Some, is_some}
 use Prim.Native.Nat.{ℕ, ◌+◌, ◌<◌, ◌≤◌}
-use mathlib.Core.Path.{◌≡◌, ◌∙◌, refl, sym, ap}
-use mathlib.Core.Bool.{Bool, true, false, cond, ◌&&◌, and_assoc, and-true, and-false}
-use mathlib.Core.List.{List, [], ◌∷◌, ◌++◌}
+use mathlib.Core.Path.{◌≡◌, ◌∙◌, refl, sym, ap, ap₂}
+use mathlib.Core.Bool.{Bool, true, false, cond, ◌&&◌, ◌||◌, and_assoc, and-true, and-false}
+use mathlib.Core.List.{List, [], ◌∷◌, ◌++◌, append-nil}
 use native.Mathlib.Omega.{arith}
 use borrow.Author.Tests.{le-leb, lt-leb}
-use lib.Dec.{leb}
-use lib.ListN.{length, get_or, drop, length-append}
-use lib.Seq.{take_all, drop-drop}
+use Rattle.std.proofs.lemmas.Bool.{ne_eqb}
+use lib.Dec.{leb, eqb}
+use lib.ListN.{length, get_or, drop}
 use Rattle.rules.specs.Digits.{same_bytes}
-use Rattle.rules.specs.Response.{letter_or_digit, all_letters, lawful_boundary, line_end, hyphens, begins, opening, closing, end_in}
-use Rattle.digits.proofs.Scan.{all-step, all_end, same_length}
-use Rattle.about_responses.proofs.Begins.{begins-parts}
+use Rattle.rules.specs.Response.{letter_or_digit, all_letters, lawful_boundary, line_end, begins, closing, strip, end_in}
+use Rattle.digits.proofs.Scan.{all-step, all_end}
 
 -- ---- a boundary
 
@@ -33,69 +32,38 @@ pub boundary-is : (s : List ℕ) (b : Bool) → length s ≤ 70 → all_letters 
 unfolding lawful_boundary
 boundary-is s b h e = rw (le-leb (length s) 70 h, e, and-true (leb 1 (length s))) refl
 
--- ---- the first line, and what closes a file
-
-pub opened-parts : (b s : List ℕ) → (begins hyphens s && begins b (drop 2 s) && begins line_end (drop (2 + length b) s)) ≡ begins (opening b) s
-opened-parts b s =
-    and_assoc (begins hyphens s) (begins b (drop 2 s)) (begins line_end (drop (2 + length b) s))
-    ∙ ap (λ (t : Bool). begins hyphens s && t)
-    (ap (λ (t : List ℕ). begins b (drop 2 s) && begins line_end t) (sym (drop-drop (length b) 2 s)) ∙ sym (begins-parts b line_end (drop 2 s)))
-    ∙ sym (begins-parts hyphens (b ++ line_end) s)
-
--- 0D 0A and two hyphens
-abbrev pub edge : List ℕ
-edge = 13 ∷ 10 ∷ 45 ∷ 45 ∷ []
-
-pub closing-parts : (b s : List ℕ) → (begins edge s && begins b (drop 4 s) && begins hyphens (drop (4 + length b) s)) ≡ begins (closing b) s
-closing-parts b s =
-    and_assoc (begins edge s) (begins b (drop 4 s)) (begins hyphens (drop (4 + length b) s))
-    ∙ ap (λ (t : Bool). begins edge s && t)
-    (ap (λ (t : List ℕ). begins b (drop 4 s) && begins hyphens t) (sym (drop-drop (length b) 4 s)) ∙ sym (begins-parts b hyphens (drop 4 s)))
-    ∙ sym (begins-parts edge (b ++ hyphens) s)
-
 -- ---- the end
 
-closing-length : (b : List ℕ) → length (closing b) ≡ length b + 6
-closing-length b = omega (arith, length-append b hyphens)
+same-parts : (p e s : List ℕ) → same_bytes s (p ++ e) ≡ (begins p s && same_bytes (drop (length p) s) e)
+unfolding same_bytes begins
+same-parts [] e s = refl
+same-parts (x ∷ p) e [] = refl
+same-parts (x ∷ p) e (y ∷ s) = ap (λ (t : Bool). eqb y x && t) (same-parts p e s) ∙ sym (and_assoc (eqb y x) (begins p s) (same_bytes (drop (length p) s) e))
 
-pub opening-length : (b : List ℕ) → length (opening b) ≡ length b + 4
-opening-length b = omega (arith, length-append b line_end)
+same-nothing : (s : List ℕ) → same_bytes s [] ≡ eqb (length s) 0
+unfolding same_bytes
+same-nothing [] = refl
+same-nothing (x ∷ s) = sym (ne_eqb (length (x ∷ s)) 0 (λ e. omega (arith, e)))
 
-same-begins : (p s : List ℕ) → length s ≡ length p → same_bytes s p ≡ begins p s
-unfolding begins
-same-begins p s e = ap (λ (t : List ℕ). same_bytes t p) (sym (take_all (length p) s (omega arith)))
+-- what may stand behind that which closes a file
+abbrev pub ends : Option (List ℕ) → Bool
+ends None = false
+ends (Some t) = eqb (length t) 0 || same_bytes t line_end
 
-module _ (b s : List ℕ) where
-  both_ends : length (closing b ++ line_end) ≡ length b + 8
-  both_ends = omega (arith, length-append (closing b) line_end, closing-length b)
+pub ends-by : (b s : List ℕ) → ends (strip (closing b) s) ≡ is_some (end_in b s)
+unfolding strip end_in
+ends-by b s =
+    go (begins (closing b) s) (drop (length (closing b)) s)
+    ∙ ap₂ (λ (x y : Bool). is_some (cond {A = Option Bool} x (Some false) (cond y (Some true) None)))
+    (ap (λ (t : Bool). begins (closing b) s && t) (sym (same-nothing (drop (length (closing b)) s))) ∙ sym (same-parts (closing b) [] s) ∙ ap (same_bytes s) (append-nil (closing b)))
+    (sym (same-parts (closing b) line_end s))
+  where
+    two : (x y : Bool) → (x || y) ≡ is_some (cond {A = Option Bool} x (Some false) (cond y (Some true) None))
+    two true y = refl
+    two false true = refl
+    two false false = refl
 
-  pub end_short : length s ≡ length b + 6 → begins (closing b) s ≡ is_some (end_in b s)
-  unfolding end_in
-  end_short h =
-      let e : same_bytes s (closing b ++ line_end) ≡ false = same_length s (closing b ++ line_end) (λ g. omega (arith, g, h, both_ends)) in
-      let f : same_bytes s (closing b) ≡ begins (closing b) s = same-begins (closing b) s (omega (arith, h, closing-length b)) in
-      rw (e, f) (go (begins (closing b) s))
-    where
-      go : (t : Bool) → t ≡ is_some (cond {A = Option Bool} t (Some false) None)
-      go true = refl
-      go false = refl
-
-  pub end-long : length s ≡ length b + 8 → (begins (closing b) s && begins line_end (drop (length b + 6) s)) ≡ is_some (end_in b s)
-  unfolding end_in
-  end-long h =
-      let e : same_bytes s (closing b) ≡ false = same_length s (closing b) (λ g. omega (arith, g, h, closing-length b)) in
-      let f : same_bytes s (closing b ++ line_end) ≡ begins (closing b ++ line_end) s = same-begins (closing b ++ line_end) s (omega (arith, h, both_ends)) in
-      let g : begins (closing b ++ line_end) s ≡ (begins (closing b) s && begins line_end (drop (length b + 6) s)) =
-      begins-parts (closing b) line_end s ∙ ap (λ (k : ℕ). begins (closing b) s && begins line_end (drop k s)) (closing-length b) in
-      rw (e, f, g) (go (begins (closing b) s && begins line_end (drop (length b + 6) s)))
-    where
-      go : (t : Bool) → t ≡ is_some (cond {A = Option Bool} t (Some true) None)
-      go true = refl
-      go false = refl
-
-  pub end-other : (length s ≡ length b + 6 → ⊥) → (length s ≡ length b + 8 → ⊥) → false ≡ is_some (end_in b s)
-  unfolding end_in
-  end-other h g =
-      let e : same_bytes s (closing b) ≡ false = same_length s (closing b) (λ k. h (omega (arith, k, closing-length b))) in
-      let f : same_bytes s (closing b ++ line_end) ≡ false = same_length s (closing b ++ line_end) (λ k. g (omega (arith, k, both_ends))) in
-      rw (e, f) refl
+    go : (t : Bool) (u : List ℕ) → ends (cond t (Some u) None)
+        ≡ is_some (cond {A = Option Bool} (t && eqb (length u) 0) (Some false) (cond (t && same_bytes u line_end) (Some true) None))
+    go false u = refl
+    go true u = two (eqb (length u) 0) (same_bytes u line_end)

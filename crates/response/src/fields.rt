@@ -1,7 +1,7 @@
-// What the two header lines say: the file's length, and where its name begins.
+// What the two header lines say: the file's length, and its name.
 ghost use Rattle.std.specs.Prelude.{◌≡◌, length, drop};
-ghost use Rattle.rules.specs.Response.{content_length, length_in};
-ghost use Rattle.response.specs.Found.{NameRead};
+ghost use Rattle.rules.specs.Response.{content_length, length_in, behind};
+ghost use Rattle.response.specs.Lent.{lent};
 
 use crate::headers::SIZE_FROM;
 use crate::lines::begins;
@@ -27,13 +27,9 @@ pub(crate) fn size_in(line: &[u8]) -> Option<usize>
 }
 
 // What follows the first `p`.
-pub(crate) fn name_in(s: &[u8], p: &[u8]) -> Option<usize>
-    ensures { NameRead p.now s.now result }
+pub(crate) fn name_in<'a>(s: &'a [u8], p: &[u8]) -> Option<&'a [u8]>
+    ensures { lent result ≡ behind p.now s.now }
 {
-    for i in 0..s.len() {
-        if begins(&s[i..], p) {
-            return Some(i + p.len());
-        }
-    }
-    None
+    let at = (0..s.len()).find(|&i| begins(&s[i..], p))?;
+    Some(&s[at + p.len()..])
 }

@@ -1,4 +1,5 @@
-// Whole responses from the modem (02, §1): where the name and the file stand in a response's bytes. Nothing of the file is looked at.
+// Whole responses from the modem (02, §1): the name and the file that a response's bytes carry, as parts of these bytes. Nothing of the file
+// is looked at.
 #![tactic(auto)]
 
 mod edges;
@@ -6,54 +7,42 @@ mod fields;
 mod headers;
 mod lines;
 
-ghost use Rattle.std.specs.Prelude.{◌≡◌, true};
-ghost use Rattle.rules.specs.Response.{parse_response};
-ghost use Rattle.response.specs.Found.{Opened, FoundIn, carried_at, within};
+ghost use Rattle.std.specs.Prelude.{◌≡◌};
+ghost use Rattle.rules.specs.Response.{parse_response, name_and_file, headers_next, headers_in};
+ghost use Rattle.response.specs.Lent.{carried};
 
-// The places of name and file.
-#[derive(Clone, Copy, Debug, PartialEq, Eq)]
-pub struct Places {
-    pub name_at: usize,
-    pub name_end: usize,
-    pub file_at: usize,
-    pub file_end: usize,
+// The name and the file.
+#[derive(Clone, Copy)]
+pub struct Carried<'a> {
+    pub name: &'a [u8],
+    pub file: &'a [u8],
 }
 
-// The places in a response whose first line is there. The file's end goes by its length: the closing boundary is not searched for.
-fn carried(boundary: &[u8], s: &[u8]) -> Option<Places>
-    requires { Opened boundary.now s.now }
-    ensures { FoundIn boundary.now s.now result }
+// What a response carries after its first line. The file's end goes by its length: the closing boundary is not searched for.
+fn carried_in<'a>(boundary: &[u8], s: &'a [u8]) -> Option<Carried<'a>>
+    ensures { carried result ≡ name_and_file (headers_next boundary.now (headers_in s.now)) }
 {
-    let start = boundary.len() + edges::OPENING;
-    let found = headers::read(s, start)?;
-    let n = fields::size_in(&s[found.size_at..found.size_end])?;
-    let k = fields::name_in(&s[found.name_at..found.name_end], &fields::FILE_NAME)?;
-    let next = found.next;
-    if s.len() - next < n {
+    let found = headers::read(s)?;
+    let n = fields::size_in(found.size)?;
+    let name = fields::name_in(found.name, &fields::FILE_NAME)?;
+    let rest = found.rest;
+    if rest.len() < n {
         return None;
     }
-    let stop = next + n;
-    if !edges::closed(&s[stop..], boundary) {
+    if !edges::closed(&rest[n..], boundary) {
         return None;
     }
-    Some(Places {
-        name_at: found.name_at + k,
-        name_end: found.name_end,
-        file_at: next,
-        file_end: stop,
-    })
+    let file = &rest[..n];
+    Some(Carried { name, file })
 }
 
-// Where the name and the file stand in a response between that boundary; none where its bytes break the form (cause 17).
-pub fn find(boundary: &[u8], s: &[u8]) -> Option<Places>
-    ensures carried { carried_at s.now result ≡ parse_response boundary.now s.now }
-    ensures inside { within s.now result ≡ true }
+// The name and the file of a response between that boundary; none where its bytes break the form (cause 17).
+pub fn find<'a>(boundary: &[u8], s: &'a [u8]) -> Option<Carried<'a>>
+    ensures { carried result ≡ parse_response boundary.now s.now }
 {
     if !edges::lawful_boundary(boundary) {
         return None;
     }
-    if !edges::opened(s, boundary) {
-        return None;
-    }
-    carried(boundary, s)
+    let headers = edges::opened(s, boundary)?;
+    carried_in(boundary, headers)
 }

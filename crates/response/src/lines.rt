@@ -1,39 +1,29 @@
-// Lines of a response: what bytes begin with, and where a line ends.
-ghost use Rattle.std.specs.Prelude.{◌≡◌, ◌&&◌, ◌≤◌, length, eqb};
-ghost use Rattle.rules.specs.Response.{begins};
-ghost use Rattle.response.specs.Found.{LineRead};
+// Lines of a response: whether it begins with other bytes, and what follows them; its first line.
+ghost use Rattle.std.specs.Prelude.{◌≡◌};
+ghost use Rattle.rules.specs.Response.{begins, strip, line_of};
+ghost use Rattle.response.specs.Lent.{lent, both_lent};
 
 // 'Lines end in bytes 0D 0A'.
-pub(crate) const LINE_END_LENGTH: usize = 2;
-
-pub(crate) const LINE_END: [u8; LINE_END_LENGTH] = *b"\r\n";
+pub(crate) const LINE_END: [u8; 2] = *b"\r\n";
 
 // Whether `s` begins with `p`.
 pub(crate) fn begins(s: &[u8], p: &[u8]) -> bool
     ensures { result ≡ begins p.now s.now }
 {
-    let n = p.len();
-    if s.len() < n {
-        return false;
-    }
-    digits::same(&s[..n], p)
+    s.starts_with(p)
 }
 
-fn pair(x: u8, y: u8) -> bool
-    ensures { result ≡ (eqb x 13 && eqb y 10) }
+// What follows `p` where `s` begins with it.
+pub(crate) fn strip<'a>(s: &'a [u8], p: &[u8]) -> Option<&'a [u8]>
+    ensures { lent result ≡ strip p.now s.now }
 {
-    (x == b'\r') & (y == b'\n')
+    s.strip_prefix(p)
 }
 
-// The end of the line at place `at`.
-pub(crate) fn line_end(s: &[u8], at: usize) -> Option<usize>
-    requires { at ≤ length s.now }
-    ensures { LineRead s.now at result }
+// The first line, and what follows its end.
+pub(crate) fn split_line(s: &[u8]) -> Option<(&[u8], &[u8])>
+    ensures { both_lent result ≡ line_of s.now }
 {
-    for i in at..s.len().saturating_sub(1) {
-        if pair(s[i], s[i + 1]) {
-            return Some(i);
-        }
-    }
-    None
+    let end = (0..s.len().saturating_sub(1)).find(|&i| (s[i] == b'\r') & (s[i + 1] == b'\n'))?;
+    Some((&s[..end], &s[end + LINE_END.len()..]))
 }

@@ -1,4 +1,5 @@
 -- Causes of refusal and answers (01, Causes of refusal): 01's number of each cause, and 01's values of each answer.
+use Rattle.std.specs.Option.{unwrap_or, option_map}
 use Rattle.std.specs.Prelude.{ℕ, Bool, true, false, Option, Some, None, Result, Ok, Err}
 use Rattle.rules.specs.declared.Cause.{Cause}
 use Rattle.rules.specs.declared.Ceiling.{Ceiling}
@@ -88,10 +89,10 @@ of_summary s = record {
   segment = s.segment;
   records = s.records;
   rates = s.rates;
-  start = s.start;
-  flag = s.flag;
-  next_access = s.next_access;
-  result = s.result;
+  start = unwrap_or s.start 0;
+  flag = unwrap_or (option_map (λ u. u.flag) s.update) 0;
+  next_access = unwrap_or (option_map (λ u. u.next_access) s.update) 0;
+  result = unwrap_or s.result 0;
 }
 
 -- what each answer beside the unit says

@@ -46,17 +46,23 @@ pub enum Due {
     Fixed(u8),
 }
 
-// What is kept of a file that reads well: what a unit or a lister needs of it.
+// What is kept of a file that reads well: what a unit or a lister needs of it. A schedule has a start, a 203 its flag and next access, a 301 a result.
 #[derive(Clone, Copy, Debug, PartialEq, Eq)]
 pub struct Summary {
     pub format: Format,
     pub segment: u16,
     pub records: u32,
     pub rates: u32,
-    pub start: u32,
+    pub start: Option<u32>,
+    pub update: Option<Update>,
+    pub result: Option<u8>,
+}
+
+// The flag of a 203, and its next access in seconds.
+#[derive(Clone, Copy, Debug, PartialEq, Eq)]
+pub struct Update {
     pub flag: u8,
     pub next_access: u32,
-    pub result: u8,
 }
 
 // The kind of schedule whose request failed.

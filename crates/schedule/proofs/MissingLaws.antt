@@ -11,12 +11,13 @@ use lib.Dec.{leb, ltb, eqb}
 use borrow.Author.Tests.{lt-ltb, le-ltb, le-leb, eq-eqb, ne_eqb, ltb-true, ltb-false, leb-true, eqb-true, eqb-false}
 use Rattle.rules.specs.Calendar.{first_slot, month_of_slot, slot_count, month_count}
 use Rattle.rules.specs.Machine.{one, count_below}
-use Rattle.calendar.proofs.Laws.{first-slot-monotone, first-slot-strict, first-slot-rises, first-slot-end, slot-month-few, slot-month-from, slot-month-until, slot-month-past}
+use Rattle.calendar.proofs.Laws.{first-slot-monotone, first-slot-strict, first-slot-rises, first-slot-end}
+use Rattle.calendar.proofs.Laws.{slot-month-few, slot-month-from, slot-month-until, slot-month-past}
 use Rattle.pool.specs.Blocks.{find_of}
 use Rattle.pool.specs.declared.Pool.{Pool}
 use Rattle.schedule.specs.Stored.{meets, missing}
 use Rattle.schedule.specs.Rates.{end_month}
-use Rattle.schedule.proofs.RateLaws.{slot-from}
+use Rattle.schedule.proofs.RateLaws.{slot_from}
 
 -- ---- a count of the numbers below k that pass
 
@@ -57,25 +58,25 @@ module _ (s n : ℕ) where
   unfolding end_month
   end_none e = rw (eq-eqb n 0 e)
 
-  pub end-some : (n ≡ 0 → ⊥) → end_month s n ≡ suc (month_of_slot last)
+  pub end_some : (n ≡ 0 → ⊥) → end_month s n ≡ suc (month_of_slot last)
   unfolding end_month
-  end-some e = rw (ne_eqb n 0 e)
+  end_some e = rw (ne_eqb n 0 e)
 
-  pub end-most : end_month s n ≤ month_count
-  end-most = go (eqb n 0) refl
+  pub end_most : end_month s n ≤ month_count
+  end_most = go (eqb n 0) refl
     where
       go : (t : Bool) → eqb n 0 ≡ t → end_month s n ≤ month_count
       go true e = omega (arith, end_none (eqb-true n 0 e))
       go false e =
           let p = eqb-false n 0 e in
           let h : last < slot_count = omega arith in
-          omega (arith, end-some p, slot-month-few last h)
+          omega (arith, end_some p, slot-month-few last h)
 
   module _ (m : ℕ) where
     meets-low : m < month_of_slot s → meets m s n ≡ false
     meets-low l =
         let a = first-slot-monotone (suc m) (month_of_slot s) l in
-        let b = slot-from s in
+        let b = slot_from s in
         le-ltb (max s (first_slot m)) (min (s + n) (first_slot (suc m))) (omega arith)
 
     meets-high : end_month s n ≤ m → m < month_count → meets m s n ≡ false
@@ -86,7 +87,7 @@ module _ (s n : ℕ) where
         go false e =
             let p = eqb-false n 0 e in
             let h : last < slot_count = omega arith in
-            let k : suc (month_of_slot last) ≤ m = omega (arith, end-some p) in
+            let k : suc (month_of_slot last) ≤ m = omega (arith, end_some p) in
             let a = slot-month-until last h in
             let b = first-slot-monotone (suc (month_of_slot last)) m k in
             let d = first-slot-strict m month_count few in
@@ -97,11 +98,11 @@ module _ (s n : ℕ) where
       where
         go : (t : Bool) → eqb n 0 ≡ t → (u : Bool) → ltb s slot_count ≡ u → meets m s n ≡ true
         go true e u f = absurd (omega (arith, end_none (eqb-true n 0 e)))
-        go false e false f = absurd (omega (arith, slot-month-past s (ltb-false s slot_count f), end-most))
+        go false e false f = absurd (omega (arith, slot-month-past s (ltb-false s slot_count f), end_most))
         go false e true f =
             let p = eqb-false n 0 e in
             let h : last < slot_count = omega arith in
-            let k : m ≤ month_of_slot last = omega (arith, end-some p) in
+            let k : m ≤ month_of_slot last = omega (arith, end_some p) in
             let a = first-slot-monotone m (month_of_slot last) k in
             let b = slot-month-from last h in
             let d = slot-month-until s (ltb-true s slot_count f) in
@@ -132,13 +133,16 @@ module _ (p : Pool) (floor s n : ℕ) where
   needs_in : (m : ℕ) → max floor (month_of_slot s) ≤ m → m < end_month s n → needs-block m ≡ is_none (find_of p m)
   needs_in m l h = rw (le-leb floor m (omega arith), meets-in s n m (omega arith) h)
 
-  pub missing-start : (start : ℕ) → start ≡ min (max floor (month_of_slot s)) (end_month s n) → 0 ≡ count_below start needs-block
-  missing-start start e = sym (count_none start needs-block (λ m l. needs-low m (omega arith)))
+  pub missing_start : (start : ℕ) → start ≡ min (max floor (month_of_slot s)) (end_month s n) → 0 ≡ count_below start needs-block
+  missing_start start e = sym (count_none start needs-block (λ m l. needs-low m (omega arith)))
 
-  pub missing-step : (m : ℕ) → min (max floor (month_of_slot s)) (end_month s n) ≤ m → m < end_month s n
+  pub missing_step : (m : ℕ) → min (max floor (month_of_slot s)) (end_month s n) ≤ m → m < end_month s n
       → count_below (m + 1) needs-block ≡ count_below m needs-block + one (is_none (find_of p m))
-  missing-step m l h = count-step m needs-block ∙ ap (λ (t : Bool). count_below m needs-block + one t) (needs_in m (omega arith) h)
+  missing_step m l h = count-step m needs-block ∙ ap (λ (t : Bool). count_below m needs-block + one t) (needs_in m (omega arith) h)
 
-  pub missing-end : (m : ℕ) → m ≡ end_month s n → count_below m needs-block ≡ missing p floor s n
+  pub missing_end : (m : ℕ) → m ≡ end_month s n → count_below m needs-block ≡ missing p floor s n
   unfolding missing
-  missing-end m e = rw e (sym (count-up (end_month s n) month_count needs-block (end-most s n) (needs-high)))
+  missing_end m e = rw e (sym (count-up (end_month s n) month_count needs-block (end_most s n) (needs-high)))
+
+-- what the count, month by month, takes
+pub ruleset missing_steps = (missing_start, missing_step, missing_end, count_most, end_most)

@@ -23,9 +23,9 @@ put-part l vs a n e h =
     ∙ ap (λ (k : ℕ). take a l ++ vs ++ drop (a + k) l) (sym e)
     ∙ sym (sets-eq vs l a (omega arith))
 
-pub fill-part : (l vs : List ℕ) (a n v : ℕ) → a + n ≤ length l → vs ≡ replicate (length (mid_of a (a + n - a) l)) v
+pub fill_part : (l vs : List ℕ) (a n v : ℕ) → a + n ≤ length l → vs ≡ replicate (length (mid_of a (a + n - a) l)) v
     → put_mid a (a + n - a) l vs ≡ sets l a (replicate n v)
-fill-part l vs a n v h e =
+fill_part l vs a n v h e =
     let k : length (mid_of a (a + n - a) l) ≡ n = mid_len a (a + n) l h ∙ omega arith in
     let f : vs ≡ replicate n v = e ∙ ap (λ (j : ℕ). replicate j v) k in
     ap (put_mid a (a + n - a) l) f ∙ put-part l (replicate n v) a n (length-replicate n v) h

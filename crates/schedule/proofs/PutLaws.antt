@@ -2,26 +2,26 @@
 use Rattle.std.specs.Prelude.{Option, Some, None}
 use Prim.Native.Nat.{ℕ, suc, ◌+◌, ◌-◌, ◌≤◌, ◌<◌, min, max}
 use mathlib.Core.Path.{◌≡◌, ◌∙◌, sym, ap}
-use mathlib.Core.Bool.{true, false, ◌&&◌, and-false}
-use mathlib.Core.List.{List}
+use mathlib.Core.Bool.{true, false, ◌&&◌}
+use mathlib.Core.List.{List, []}
 use mathlib.Core.Logic.{⊎_elim}
 use native.Mathlib.Nat.{eq-zero-or-pos}
 use native.Mathlib.Numerals.{add-one}
 use native.Mathlib.Omega.{arith}
-use lib.Dec.{leb, ltb, eqb}
+use lib.Dec.{leb, ltb}
 use lib.ListN.{length, take, drop, length-take}
 use lib.Seq.{sets}
-use borrow.Author.Tests.{eqb-true}
-use Rattle.rules.specs.Calendar.{first_slot, month_of_slot, slot_count}
+use borrow.Author.Tests.{ne_eqb}
+use Rattle.rules.specs.Calendar.{first_slot, month_of_slot}
 use Rattle.rules.specs.Store.{store_length, block_count, block_length}
-use Rattle.laws.proofs.Tests.{both}
 use Rattle.calendar.proofs.Laws.{first-slot-step, days-range}
 use Rattle.pool.specs.Blocks.{is_free, free_count, given, find_of, take_of}
 use Rattle.pool.specs.declared.Pool.{Pool}
 use Rattle.pool.specs.declared.Taken.{Taken}
 use Rattle.pool.proofs.Laws.{found_none, take-full, take_in, take_left, take_found}
 use Rattle.schedule.specs.Stored.{Stored, Piece, place, blank, opened, open_by, open_month, laid, lay_by, lay_piece, put_piece, piece_in, can_put, put_run}
-use Rattle.schedule.specs.Rates.{stored_of, piece_of}
+use Rattle.schedule.proofs.RateLaws.{find_below, month_most}
+use Rattle.schedule.specs.Rates.{stored_of, piece_of, can_put_count}
 
 -- ---- taking a block
 
@@ -41,8 +41,8 @@ take_below p m b e = ⊎_elim none (λ r. some (take_in p m r)) (eq-zero-or-pos 
         omega (arith, w.1)
 
 module _ (q : Taken) (p : Pool) (m : ℕ) (l : List ℕ) (e : q ≡ take_of p m) where
-  pub take-opens : (b : ℕ) (after : List ℕ) → q.place ≡ Some b → after ≡ sets l (place b 0) blank → stored_of q.pool after ≡ open_by None m (stored_of p l)
-  take-opens b after h f =
+  pub take_opens : (b : ℕ) (after : List ℕ) → q.place ≡ Some b → after ≡ sets l (place b 0) blank → stored_of q.pool after ≡ open_by None m (stored_of p l)
+  take_opens b after h f =
       ap (stored_of q.pool) f
       ∙ ap (λ (x : Option ℕ). opened q.pool x l) (sym h)
       ∙ ap (λ (t : Taken). opened t.pool t.place l) e
@@ -51,29 +51,20 @@ module _ (q : Taken) (p : Pool) (m : ℕ) (l : List ℕ) (e : q ≡ take_of p m)
   take_none h = ap (λ (x : Option ℕ). opened q.pool x l) (sym h) ∙ ap (λ (t : Taken). opened t.pool t.place l) e
 
 -- the block that was taken is one of the blocks
-pub taken-below : (q : Taken) (p : Pool) (m : ℕ) → q ≡ take_of p m → (b : ℕ) → q.place ≡ Some b → b < block_count
-taken-below q p m e b h = take_below p m b (sym (ap (λ (t : Taken). t.place) e) ∙ h)
+pub taken_below : (q : Taken) (p : Pool) (m : ℕ) → q ≡ take_of p m → (b : ℕ) → q.place ≡ Some b → b < block_count
+taken_below q p m e b h = take_below p m b (sym (ap (λ (t : Taken). t.place) e) ∙ h)
 
 -- the block that a month was given, and that it has
 module _ (q : Taken) (p : Pool) (m : ℕ) (e : q ≡ take_of p m) (none : find_of p m ≡ None) where
-  pub take-block : length p.months ≡ block_count → (b : ℕ) → q.place ≡ Some b → Some b ≡ find_of q.pool m
-  take-block long b h =
+  pub take_block : length p.months ≡ block_count → (b : ℕ) → q.place ≡ Some b → Some b ≡ find_of q.pool m
+  take_block long b h =
       sym (ap (λ (t : Taken). find_of t.pool m) e ∙ take_found p m long (found_none p m none) b (ap (λ (t : Taken). t.place) (sym e) ∙ h))
 
-  pub take-no-block : q.place ≡ None → None ≡ find_of q.pool m
-  take-no-block h =
+  pub take_no_block : q.place ≡ None → None ≡ find_of q.pool m
+  take_no_block h =
       sym (ap (λ (t : Taken). find_of t.pool m) e ∙ ap (λ (x : Pool). find_of x m) (take_left p m (ap (λ (t : Taken). t.place) (sym e) ∙ h)) ∙ none)
 
 -- ---- opening a month, laying a piece
-
-module _ (p : Pool) (m : ℕ) (l : List ℕ) where
-  pub open-found : (b : ℕ) → find_of p m ≡ Some b → stored_of p l ≡ open_month m (stored_of p l)
-  unfolding open_month
-  open-found b e = ap (λ f. open_by f m (stored_of p l)) (sym e)
-
-  pub open-new : find_of p m ≡ None → open_by None m (stored_of p l) ≡ open_month m (stored_of p l)
-  unfolding open_month
-  open-new e = ap (λ f. open_by f m (stored_of p l)) (sym e)
 
 -- a piece laid into the block that its month has
 pub lay_is : (p : Pool) (q : Piece) (l after : List ℕ) (f : Option ℕ) → f ≡ find_of p q.month
@@ -84,10 +75,10 @@ lay_is p q l after f e h = ap (stored_of p) h ∙ ap (λ x. lay_by x q (stored_o
 -- ---- a piece, and the part of a run in a month
 
 module _ (floor : ℕ) (q : Piece) (s : Stored) where
-  pub piece-in : (first after : Stored) → (leb floor q.month && ltb 0 (length q.rates)) ≡ true
+  pub piece_goes_in : (first after : Stored) → (leb floor q.month && ltb 0 (length q.rates)) ≡ true
       → first ≡ open_month q.month s → after ≡ lay_piece q first → after ≡ put_piece floor q s
   unfolding put_piece
-  piece-in first after e f g = rw e (g ∙ ap (lay_piece q) f)
+  piece_goes_in first after e f g = rw e (g ∙ ap (lay_piece q) f)
 
   pub piece_out : (leb floor q.month && ltb 0 (length q.rates)) ≡ false → put_piece floor q s ≡ s
   unfolding put_piece
@@ -105,34 +96,29 @@ module _ (m s first next low high : ℕ) (rates : List ℕ) (f : first ≡ first
   high_is : high ≡ min (s + length rates) (first_slot (suc m))
   high_is = h ∙ ap (min (s + length rates)) (g ∙ ap first_slot (add-one m))
 
-  piece_is : low < high → piece_in m s rates ≡ piece_of m (low - first) (take ((high - s) - (low - s)) (drop (low - s) rates))
+  pub piece_is : low < high → piece_in m s rates ≡ piece_of m (low - first) (take ((high - s) - (low - s)) (drop (low - s) rates))
   unfolding piece_in
   piece_is k = rw (part_count s low high (omega arith) k, l, high_is, f)
 
-  pub piece_put : (floor : ℕ) (st after : Stored) → low < high
-      → after ≡ put_piece floor (piece_of m (low - first) (take ((high - s) - (low - s)) (drop (low - s) rates))) st
-      → after ≡ put_piece floor (piece_in m s rates) st
-  piece_put floor st after k e = e ∙ ap (λ (q : Piece). put_piece floor q st) (sym (piece_is k))
-
-  pub piece-fits : low < high → (low - first) + length (take ((high - s) - (low - s)) (drop (low - s) rates)) ≤ block_length
-  piece-fits k =
+  pub piece_fits : low < high → (low - first) + length (take ((high - s) - (low - s)) (drop (low - s) rates)) ≤ block_length
+  piece_fits k =
       let end : first_slot (suc m) ≤ first + block_length = omega (arith, first-slot-step m, days-range m) in
       let n = length (take ((high - s) - (low - s)) (drop (low - s) rates)) in
       let count : n ≤ high - low = rw (part_count s low high (omega arith) k, length-take (high - low) (drop (low - s) rates)) (omega arith) in
       part_room first low high n (omega arith) k (omega (arith, high_is)) count
 
-  pub piece-none : high ≤ low → (floor : ℕ) (st : Stored) → st ≡ put_piece floor (piece_in m s rates) st
+  pub piece_none : high ≤ low → piece_of m (low - first) [] ≡ piece_in m s rates
   unfolding piece_in
-  piece-none k floor st =
+  piece_none k =
       let z : min (s + length rates) (first_slot (suc m)) - max s (first_slot m) ≡ 0 = omega (arith, high_is) in
-      sym (piece_out floor (piece_in m s rates) st (rw z (and-false (leb floor m))))
+      rw (z, l, f)
 
 -- ---- a run
 
 module _ (floor s : ℕ) (rates : List ℕ) (st : Stored) where
-  pub run-not : can_put s rates st ≡ false → put_run floor s rates st ≡ st
+  pub run_not : can_put s rates st ≡ false → put_run floor s rates st ≡ st
   unfolding put_run
-  run-not e = rw e
+  run_not e = rw e
 
   -- the part in the slot's month m, and then the part in the next one
   pub run_is : (m : ℕ) (first second : Stored) → m ≡ month_of_slot s → can_put s rates st ≡ true
@@ -141,10 +127,15 @@ module _ (floor s : ℕ) (rates : List ℕ) (st : Stored) where
   run_is m first second e can f g = rw (can, ← e) (g ∙ rw (f, add-one m))
 
   -- what can be put is put into a store of 01's length
-  pub can-long : can_put s rates st ≡ true → length st.store ≡ store_length
+  pub run_other : (length st.store ≡ store_length → ⊥) → put_run floor s rates st ≡ st
   unfolding can_put
-  can-long e =
-      let long = eqb (length st.store) store_length in
-      let in-time = leb (s + length rates) slot_count in
-      let w = both (long && in-time) (leb (s + length rates) (first_slot (suc (suc (month_of_slot s))))) e in
-      eqb-true _ _ (both long in-time w.0).0
+  run_other n = run_not (rw (ne_eqb (length st.store) store_length n))
+
+  pub can_count : length st.store ≡ store_length → can_put_count s (length rates) store_length ≡ can_put s rates st
+  unfolding can_put
+  can_count long = ap (can_put_count s (length rates)) (sym long)
+
+-- what putting a piece, and a run, takes
+pub ruleset piece_steps = (piece_goes_in, piece_out, lay_is, find_below)
+
+pub ruleset run_steps = (month_most, run_other, run_not, can_count)

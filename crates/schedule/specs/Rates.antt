@@ -1,9 +1,8 @@
 -- What the code's answers are in terms of `Stored`: a rate that may be missing, and values put together.
-use Rattle.std.specs.Prelude.{ℕ, suc, ◌+◌, ◌-◌, ◌%◌, ◌<◌, min, ◌≡◌, Bool, cond, ◌&&◌, ◌||◌, List, leb, eqb, Some, Option}
+use Rattle.std.specs.Prelude.{ℕ, suc, ◌+◌, ◌-◌, ◌%◌, ◌<◌, min, ◌≡◌, Bool, cond, ◌&&◌, List, leb, eqb, Some, Option}
 use Rattle.rules.specs.Calendar.{first_slot, month_of_slot, slot_count}
 use Rattle.rules.specs.Body.{highest_rate}
-use Rattle.rules.specs.Store.{store_length, no_rate, block_of, sound_block, block_count}
-use Rattle.pool.specs.Blocks.{is_free, month_of}
+use Rattle.rules.specs.Store.{store_length, no_rate, block_count}
 use Rattle.pool.specs.declared.Pool.{Pool}
 use Rattle.schedule.specs.Stored.{Stored, Piece}
 
@@ -35,10 +34,6 @@ highest_rank = highest_rate + 1
 -- a byte past the month's end
 abbrev pub blank_byte : ℕ → Bool
 blank_byte x = eqb x no_rate
-
--- block b is free, or is sound with its month
-abbrev pub place_holds : Pool → List ℕ → ℕ → Bool
-place_holds p store b = is_free p b || sound_block (month_of p b) (block_of store b)
 
 -- the month after the last one that has one of the n slots from slot s on; 0 of no slots
 unfoldable pub end_month : ℕ → ℕ → ℕ

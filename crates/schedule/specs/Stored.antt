@@ -1,5 +1,6 @@
 -- The held months' rates: what the pool and the store say of a slot, and what they are after a run of rates is put into them.
-use Rattle.std.specs.Prelude.{ℕ, suc, ◌+◌, ◌-◌, ◌*◌, min, max, Bool, cond, ◌&&◌, List, leb, ltb, eqb, length, get_or, take, drop, replicate, Some, None, Option, is_none}
+use Rattle.std.specs.Prelude.{ℕ, suc, ◌+◌, ◌-◌, ◌*◌, min, max, Bool, cond, ◌&&◌}
+use Rattle.std.specs.Prelude.{List, leb, ltb, eqb, length, get_or, take, drop, replicate, Some, None, Option, is_none}
 use Rattle.std.proofs.lemmas.List.Edits.{sets}
 use Rattle.rules.specs.Calendar.{first_slot, month_of_slot, slot_count, month_count}
 use Rattle.rules.specs.Store.{block_length, store_length, no_rate, rate_bytes, from_byte, sound_store}

@@ -17,6 +17,7 @@ fn lacks(pool: Pool, month: u16) -> u32
 }
 
 // The month after the last one that has a slot of the run; 0 of no slots.
+#[tactic(auto, using(crate::proofs::MissingLaws::end_none, crate::proofs::MissingLaws::end_some, crate::proofs::RateLaws::month_most))]
 fn end_month(slot: u32, count: u32) -> u16
     ensures { result ≡ end_month slot count }
 {
@@ -35,6 +36,7 @@ fn start_month(floor: u16, slot: u32, end: u16) -> u16
 }
 
 // How many months from floor on have a slot of the run and no block.
+#[tactic(auto, using(crate::proofs::MissingLaws::missing_steps))]
 pub fn missing(pool: Pool, floor: u16, slot: u32, count: u32) -> u32
     ensures { result ≡ missing pool floor slot count }
 {

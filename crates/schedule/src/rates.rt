@@ -7,21 +7,22 @@ use pool::Pool;
 use rules::{BLOCK_LENGTH, NO_RATE};
 
 // A byte of the store as a rate.
+#[tactic(auto, using(crate::proofs::RateLaws::byte_none, crate::proofs::RateLaws::byte_some))]
 fn rate_of(byte: u8) -> Option<u8>
     ensures { result ≡ from_byte byte }
 {
-    let none = NO_RATE;
-    if byte == none { None } else { Some(byte) }
+    (byte != NO_RATE).then_some(byte)
 }
 
 // The byte at a place; past the end there is no rate.
 fn byte_at(store: &[u8], at: usize) -> u8
     ensures { result ≡ get_or store.now at no_rate }
 {
-    if at < store.len() { store[at] } else { NO_RATE }
+    store.get(at).copied().unwrap_or(NO_RATE)
 }
 
 // The rate of a slot, where a file gave one.
+#[tactic(auto, using(crate::proofs::RateLaws::rate_steps))]
 pub fn rate_at(pool: Pool, store: &[u8], slot: u32) -> Option<u8>
     ensures { result ≡ stored_rate pool store.now slot }
 {

@@ -87,6 +87,9 @@ fn failure_ask(kind: &[u8], status: &[u8]) -> Option<Ask>
     None
 }
 
+// The words are compared by `same`: `==` takes slices alone, so that `b"lost".as_slice()` is no plainer, and a `match` on them was tried: its last
+// arm has a goal for each byte that differs, 25 in the next function, and the search closes none of them.
+
 // A line of one word.
 #[tactic(auto, unfolding(crate::specs::Ask::ask_one))]
 fn ask_one(call: &[u8]) -> Option<Ask>
@@ -172,10 +175,7 @@ fn ask_six(call: &[u8], panel: &[u8], inverter: &[u8], minutes: &[u8]) -> Option
 fn is_silent(line: &[u8]) -> bool
     ensures { result ≡ is_silent line.now }
 {
-    if line.len() == 0 {
-        return true;
-    }
-    line[0] == COMMENT
+    matches!(line, [] | [COMMENT, ..])
 }
 
 // `install` and what it is given.

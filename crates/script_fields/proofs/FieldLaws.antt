@@ -2,15 +2,17 @@
 use Rattle.std.specs.Prelude.{Some, None, Option}
 use Prim.Native.Nat.{ℕ, ◌+◌, ◌≤◌, ◌<◌}
 use mathlib.Core.Path.{◌≡◌, ◌∙◌, refl, ap}
-use mathlib.Core.Bool.{Bool, true, false}
+use mathlib.Core.Bool.{Bool, true, false, cond, ◌&&◌}
 use mathlib.Core.List.{List, [], ◌∷◌, ◌++◌, map}
 use native.Mathlib.Omega.{arith}
-use borrow.Author.Tests.{le-leb, lt-leb, leb-true}
-use lib.Dec.{leb}
+use borrow.Author.Tests.{le-leb, lt-leb, leb-false}
+use lib.Dec.{leb, eqb}
+use lib.Pointwise.{pointwise}
 use lib.ListN.{length, take, drop}
 use lib.Seq.{paste, take-length}
 use Rattle.rules.specs.Digits.{same_bytes}
-use Rattle.laws.proofs.Tests.{both}
+use Rattle.std.proofs.lemmas.List.{length-take}
+use Rattle.laws.proofs.Bytes.{same-equal, equal-same, pointwise-same}
 use Rattle.script_fields.specs.Hex.{all_hex, hex_bytes}
 use Rattle.script_fields.specs.Field.{mark, marked, hex_field, plain_byte, plain_field, body_field, field_in, buffer_with}
 
@@ -38,16 +40,19 @@ module _ {o : Option (List ℕ)} (d : List ℕ) where
 
 -- ---- hex digits
 
-pub hex-none : (s : List ℕ) → all_hex s ≡ false → hex_field s ≡ None
-hex-none s e = rw e refl
-
 pub hex-some : (s : List ℕ) → all_hex s ≡ true → hex_field s ≡ Some (hex_bytes s)
 hex-some s e = rw e refl
 
 -- ---- a plain or a marked word
 
-pub marked-long : (s : List ℕ) → marked s ≡ true → 4 ≤ length s
-marked-long s e = leb-true 4 (length s) (both (leb 4 (length s)) (same_bytes (take 4 s) mark) e).0
+-- what `strip_prefix` tests
+pub marked_is : (s : List ℕ) → pointwise eqb (take 4 s) mark ≡ marked s
+marked_is s = pointwise-same (take 4 s) mark ∙ go (leb 4 (length s)) refl (same_bytes (take 4 s) mark) refl
+  where
+    go : (l : Bool) → leb 4 (length s) ≡ l → (b : Bool) → same_bytes (take 4 s) mark ≡ b → b ≡ (l && b)
+    go true e b f = refl
+    go false e true f = absurd (omega (arith, leb-false 4 (length s) e, length-take 4 s, ap length (same-equal (take 4 s) mark f)))
+    go false e false f = refl
 
 module _ (digits : Bool) (s : List ℕ) where
   pub is-hex : marked s ≡ true → plain_field digits s ≡ hex_field (drop 4 s)
@@ -66,16 +71,20 @@ is_plain digits (x ∷ s) e h = rw e refl
 
 -- ---- a body
 
-pub no_body : (s : List ℕ) → same_bytes s (45 ∷ []) ≡ true → body_field s ≡ Some []
+pub no_body : (s : List ℕ) → s ≡ 45 ∷ [] → body_field s ≡ Some []
 unfolding body_field
-no_body s e = rw e refl
+no_body s e = rw (equal-same e) refl
 
-pub no-digits : (s : List ℕ) → same_bytes s (45 ∷ []) ≡ false → length s ≡ 0 → body_field s ≡ None
-unfolding body_field
-no-digits [] e h = rw e refl
-no-digits (x ∷ s) e h = absurd (omega arith)
+pub no-digits : (s : List ℕ) → length s < 1 → body_field s ≡ None
+unfolding body_field same_bytes
+no-digits [] h = refl
+no-digits (x ∷ s) h = absurd (omega arith)
 
-pub is_body : (s : List ℕ) → same_bytes s (45 ∷ []) ≡ false → (length s ≡ 0 → ⊥) → body_field s ≡ hex_field s
+pub is_body : (s : List ℕ) → 1 ≤ length s → (s ≡ 45 ∷ [] → ⊥) → body_field s ≡ hex_field s
 unfolding body_field
-is_body [] e h = absurd (h refl)
-is_body (x ∷ s) e h = rw e refl
+is_body [] h n = absurd (omega arith)
+is_body (x ∷ s) h n = go (same_bytes (x ∷ s) (45 ∷ [])) refl
+  where
+    go : (t : Bool) → same_bytes (x ∷ s) (45 ∷ []) ≡ t → cond {A = Option (List ℕ)} t (Some []) (hex_field (x ∷ s)) ≡ hex_field (x ∷ s)
+    go true e = absurd (n (same-equal (x ∷ s) (45 ∷ []) e))
+    go false e = refl

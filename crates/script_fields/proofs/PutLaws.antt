@@ -1,4 +1,5 @@
 -- Laws of bytes put into a buffer, one after another, and of a text that has room there or not.
+use Rattle.std.specs.Prelude.{Option, Some, None}
 use Prim.Native.Nat.{ℕ, ◌+◌, ◌-◌, ◌≤◌, ◌<◌}
 use mathlib.Core.Path.{◌≡◌, ◌∙◌, refl, sym, ap}
 use mathlib.Core.List.{List}
@@ -35,15 +36,19 @@ put_two d b k j {out} {x} {y} e f g h l =
 
 -- ---- room for a text
 
+-- what a function that puts this text says and leaves
+abbrev pub Put : List ℕ → ℕ → List ℕ → Option ℕ → List ℕ → Type 0
+Put out at text next after = (next ≡ place_after out at text) × (after ≡ buffer_after out at text)
+
 module _ (out : List ℕ) (at : ℕ) (text : List ℕ) where
-  pub no_room : length out < at + length text → (at ≡ place_after out at text) × (out ≡ buffer_after out at text)
+  pub no_room : length out < at + length text → Put out at text None out
   unfolding place_after buffer_after
   no_room h = (rw (lt-leb (at + length text) (length out) h) refl, rw (lt-leb (at + length text) (length out) h) refl)
 
   pub has_room : {n : ℕ} {after : List ℕ} → n ≡ at + length text → after ≡ paste out at text (length text) → at + length text ≤ length out
-      → (n ≡ place_after out at text) × (after ≡ buffer_after out at text)
+      → Put out at text (Some n) after
   unfolding place_after buffer_after
-  has_room e f h = (rw (le-leb (at + length text) (length out) h) e, rw (le-leb (at + length text) (length out) h) f)
+  has_room e f h = (rw (le-leb (at + length text) (length out) h) (ap Some e), rw (le-leb (at + length text) (length out) h) f)
 
 -- ---- a number, which the lister's line has already
 

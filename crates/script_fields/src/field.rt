@@ -1,19 +1,12 @@
 // The words that stand for bytes: 'ID, MAC, NAME, BOUNDARY and SEGMENT may each be `hex:` and hex digits', and the digits of a body or a response.
 ghost use Rattle.std.specs.Prelude.{◌≡◌, map, ◌≤◌, length};
 ghost use Rattle.std.proofs.Math.Seq.{paste};
-ghost use Rattle.script_fields.specs.Field.{marked, plain_byte, hex_field, plain_field, bytes_field, digits_field, body_field, field_in, buffer_with};
+ghost use Rattle.script_fields.specs.Field.{plain_byte, hex_field, plain_field, bytes_field, digits_field, body_field, field_in, buffer_with};
 
 const MARK: [u8; 4] = *b"hex:";
 
-// Whether a word begins with `hex:`.
-fn is_marked(word: &[u8]) -> bool
-    ensures { result ≡ marked word.now }
-{
-    if word.len() < MARK.len() {
-        return false;
-    }
-    digits::same(&word[..4], &MARK)
-}
+// The word of an empty body or response.
+const NO_BYTES: [u8; 1] = *b"-";
 
 // Puts the bytes of hex digits into the buffer's first bytes.
 fn unhex(digits: &[u8], out: &mut [u8]) -> Option<usize>
@@ -47,6 +40,7 @@ fn put_plain(word: &[u8], digits: bool, out: &mut [u8])
     requires { length word.now ≤ length out.old }
     ensures { out.new ≡ paste out.old 0 (map (plain_byte digits) word.now) (length word.now) }
 {
+    // By an index: `out.iter_mut().zip(word)` was tried, but the prover knows nothing of what is written through an adapter of `iter_mut`.
     for (i, &x) in word.iter().enumerate() {
         out[i] = plain_byte(x, digits);
     }
@@ -57,10 +51,10 @@ fn either(word: &[u8], digits: bool, out: &mut [u8]) -> Option<usize>
     ensures answer { result ≡ field_in (length out.old) (plain_field digits word.now) }
     ensures buffer { out.new ≡ buffer_with (plain_field digits word.now) out.old }
 {
-    if is_marked(word) {
-        return unhex(&word[4..], out);
+    if let Some(digits) = word.strip_prefix(&MARK) {
+        return unhex(digits, out);
     }
-    if word.len() == 0 {
+    if word.is_empty() {
         return None;
     }
     if out.len() < word.len() {
@@ -92,10 +86,10 @@ pub fn hex_of(word: &[u8], out: &mut [u8]) -> Option<usize>
     ensures answer { result ≡ field_in (length out.old) (body_field word.now) }
     ensures buffer { out.new ≡ buffer_with (body_field word.now) out.old }
 {
-    if digits::same(word, b"-") {
+    if word == NO_BYTES.as_slice() {
         return Some(0);
     }
-    if word.len() == 0 {
+    if word.is_empty() {
         return None;
     }
     unhex(word, out)

@@ -42,6 +42,7 @@ pub(crate) fn put_bytes(s: &[u8], out: &mut [u8])
     requires { (all_hex s.now ≡ true) × (length s.now / 2 ≤ length out.old) }
     ensures { out.new ≡ paste out.old 0 (hex_bytes s.now) (length s.now / 2) }
 {
+    // By an index, as `field::put_plain`: `iter_mut().zip(s.chunks_exact(2))` was tried.
     for i in 0..s.len() / 2 {
         out[i] = nibble(s[2 * i]).unwrap() * 16 + nibble(s[2 * i + 1]).unwrap();
     }

@@ -10,30 +10,28 @@ fn copy_hex(bytes: &[u8], out: &mut [u8], at: usize)
     requires { at + 2 * length bytes.now ≤ length out.old }
     ensures { out.new ≡ paste out.old at (hex_text bytes.now) (2 * length bytes.now) }
 {
+    // By an index, as `field::put_plain`: `chunks_exact_mut(2).zip(bytes)` was tried.
     for (i, &x) in bytes.iter().enumerate() {
         out[at + 2 * i] = crate::hex::glyph(x / 16);
         out[at + 2 * i + 1] = crate::hex::glyph(x % 16);
     }
 }
 
-// Puts bytes, and says the place behind them.
-pub fn put_text(out: &mut [u8], at: usize, text: &[u8]) -> usize
+// Puts bytes, and says the place behind them; none where they do not fit, and nothing changes.
+pub fn put_text(out: &mut [u8], at: usize, text: &[u8]) -> Option<usize>
     ensures place { result ≡ place_after out.old at text.now }
     ensures buffer { out.new ≡ buffer_after out.old at text.now }
 {
-    if out.len() < at {
-        return at;
-    }
-    if out.len() - at < text.len() {
-        return at;
+    if out.len().checked_sub(at)? < text.len() {
+        return None;
     }
     let start = at;
     out[start..start + text.len()].copy_from_slice(text);
-    at + text.len()
+    Some(at + text.len())
 }
 
 // Puts a number in decimal, without zeros before it.
-pub fn put_number(out: &mut [u8], at: usize, n: u64) -> usize
+pub fn put_number(out: &mut [u8], at: usize, n: u64) -> Option<usize>
     ensures place { result ≡ place_after out.old at (numeral n) }
     ensures buffer { out.new ≡ buffer_after out.old at (numeral n) }
 {
@@ -44,16 +42,13 @@ pub fn put_number(out: &mut [u8], at: usize, n: u64) -> usize
 }
 
 // Puts bytes in hex, two small digits for each.
-pub fn put_hex(out: &mut [u8], at: usize, bytes: &[u8]) -> usize
+pub fn put_hex(out: &mut [u8], at: usize, bytes: &[u8]) -> Option<usize>
     ensures place { result ≡ place_after out.old at (hex_text bytes.now) }
     ensures buffer { out.new ≡ buffer_after out.old at (hex_text bytes.now) }
 {
-    if out.len() < at {
-        return at;
-    }
-    if (out.len() - at) / 2 < bytes.len() {
-        return at;
+    if out.len().checked_sub(at)? / 2 < bytes.len() {
+        return None;
     }
     copy_hex(bytes, out, at);
-    at + 2 * bytes.len()
+    Some(at + 2 * bytes.len())
 }

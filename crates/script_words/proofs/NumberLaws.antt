@@ -1,34 +1,12 @@
 -- Laws of a number read digit by digit.
 use Rattle.std.specs.Prelude.{Some, None}
-use Prim.Native.Nat.{ℕ, ◌+◌, ◌-◌, ◌*◌, ◌/◌, ◌≤◌, ◌<◌}
+use Prim.Native.Nat.{ℕ, ◌+◌, ◌≤◌, ◌<◌}
 use mathlib.Core.Path.{◌≡◌, ◌∙◌, refl, ap}
 use mathlib.Core.List.{List, [], ◌∷◌}
 use native.Mathlib.Omega.{arith}
-use borrow.Author.Tests.{le-leb, lt-leb}
 use lib.ListN.{length, get_or, drop, drop_of_length-le}
 use Rattle.laws.proofs.Bytes.{at_next}
-use Rattle.script_words.specs.Number.{highest, decimal_step, decimal_from, number_of}
-
--- ---- one digit more: it is one, and the number stays below 2 ^ 64
-
-module _ (n x : ℕ) where
-  pub no-digit-low : x < 48 → decimal_step n x ≡ None
-  unfolding decimal_step
-  no-digit-low h = rw (lt-leb 48 x h) refl
-
-  module _ (low : 48 ≤ x) where
-    pub no-digit-high : 57 < x → decimal_step n x ≡ None
-    unfolding decimal_step
-    no-digit-high h = rw (le-leb 48 x low, lt-leb x 57 h) refl
-
-    module _ (high : x ≤ 57) where
-      pub too_great : (highest - (x - 48)) / 10 < n → decimal_step n x ≡ None
-      unfolding decimal_step
-      too_great h = rw (le-leb 48 x low, le-leb x 57 high, lt-leb (n * 10 + (x - 48)) highest (omega arith)) refl
-
-      pub next-number : n ≤ (highest - (x - 48)) / 10 → decimal_step n x ≡ Some (n * 10 + (x - 48))
-      unfolding decimal_step
-      next-number h = rw (le-leb 48 x low, le-leb x 57 high, le-leb (n * 10 + (x - 48)) highest (omega arith)) refl
+use Rattle.script_words.specs.Number.{decimal_step, decimal_from, number_of}
 
 -- ---- the digits one after another
 

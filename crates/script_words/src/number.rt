@@ -5,20 +5,15 @@ ghost use Rattle.script_words.specs.Number.{decimal_step, number_of};
 const HIGHEST_DIGIT: u8 = b'9';
 
 // The number with one more digit behind it.
+#[tactic(auto, unfolding(crate::specs::Number::decimal_step))]
 fn more(value: u64, digit: u8) -> Option<u64>
     ensures { result ≡ decimal_step value digit }
 {
-    if digit < b'0' {
-        return None;
-    }
+    let d = digit.checked_sub(b'0')?;
     if HIGHEST_DIGIT < digit {
         return None;
     }
-    let d = (digit - b'0') as u64;
-    if (u64::MAX - d) / 10 < value {
-        return None;
-    }
-    Some(value * 10 + d)
+    value.checked_mul(10)?.checked_add(d as u64)
 }
 
 // What decimal digits stand for; not a number where there are none, another byte is among them, or it is above u64.

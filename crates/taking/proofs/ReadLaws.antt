@@ -1,4 +1,5 @@
 -- What a unit may take from a file that it is to take: its records stand in the body's bytes, its segment is a number.
+use Rattle.std.specs.Option.{unwrap_or}
 use Rattle.std.specs.Prelude.{None, Some}
 use Prim.Native.Nat.{ℕ, ◌+◌, ◌-◌, ◌≤◌}
 use mathlib.Core.Path.{◌≡◌, ◌∙◌, refl, sym, ap, subst}
@@ -7,10 +8,10 @@ use mathlib.Core.List.{List, [], ◌∷◌}
 use lib.ListN.{length, take, drop}
 use Rattle.rules.specs.Digits.{digits}
 use Rattle.rules.specs.Body.{Record, Body, schedule, count_of, parse_body, counted, is_schedule}
-use Rattle.rules.specs.File.{File, file, take_file, records_in, flag_of}
+use Rattle.rules.specs.File.{File, file, take_file, records_in}
 use Rattle.rules.specs.Lister.{total_rates, rate_count, record_count}
-use Rattle.rules.specs.Reading.{summary_of, first_start, access_of}
-use Rattle.rules.specs.Machine.{take_by, take_year, take_update}
+use Rattle.rules.specs.Reading.{summary_of, first_start, update_of}
+use Rattle.rules.specs.Machine.{take_by, take_year}
 use Rattle.rules.specs.Store.{Requests as RequestValues}
 use Rattle.rules.specs.declared.Format.{Format}
 use Rattle.rules.specs.declared.Format.TheVariants.{F201, F202, F203, F301}
@@ -25,7 +26,7 @@ use Rattle.form.proofs.Standing.{records-count, parse_is}
 use Rattle.about_files.proofs.Accepted.{Taken, taken}
 use Rattle.about_store.specs.Run.{RunFrom, run_start, run_length}
 use Rattle.about_store.proofs.Laws.{taken-good}
-use Rattle.taking.specs.Taking.{Following, take_summary}
+use Rattle.taking.specs.Taking.{Following, take_noted, take_summary}
 
 -- the records that stand in the bytes
 record Standing (f : Format) (body : List ℕ) (b : Body) : Type 0 where
@@ -56,7 +57,7 @@ standing f body b i e = go (counted f body) refl (shaped f (count_of f) (drop 6 
     go true c false t q = no-some q
     go false c t u q = no-some q
 
-first-is : (rs : List Record) → first_start rs ≡ run_start rs
+first-is : (rs : List Record) → unwrap_or (first_start rs) 0 ≡ run_start rs
 first-is [] = refl
 first-is (r ∷ rs) = refl
 
@@ -78,9 +79,9 @@ module _ (plant name body : List ℕ) (f : File) (read : take_file plant name bo
   body-room = stands.room
 
   module _ (x : Summary) (e : x ≡ summary_of f) where
-    pub start_is : x.start ≡ run_start (records_in f.body)
+    pub start_is : unwrap_or x.start 0 ≡ run_start (records_in f.body)
     unfolding summary_of
-    start_is = ap (λ (y : Summary). y.start) e ∙ first-is (records_in f.body)
+    start_is = ap (λ (y : Summary). unwrap_or y.start 0) e ∙ first-is (records_in f.body)
 
     pub rates-are : x.rates ≡ run_length (records_in f.body)
     unfolding summary_of
@@ -90,12 +91,12 @@ module _ (plant name body : List ℕ) (f : File) (read : take_file plant name bo
     unfolding summary_of
     records-are = rw (e, part-rest body 6) (sym stands.records)
 
-    pub following : Following x.format x.records x.start (take (length body - 6) (drop 6 body))
+    pub following : Following x.format x.records (unwrap_or x.start 0) (take (length body - 6) (drop 6 body))
     unfolding summary_of
     following = record {
       form = rw (e, part-rest body 6) stands.form;
       run =
-          subst (λ (rs : List Record). RunFrom x.start rs) (sym records-are)
+          subst (λ (rs : List Record). RunFrom (unwrap_or x.start 0) rs) (sym records-are)
           (subst (λ (k : ℕ). RunFrom k (records_in f.body)) (sym start_is) (taken-good plant name body f read));
     }
 
@@ -106,8 +107,11 @@ module _ (plant name body : List ℕ) (f : File) (read : take_file plant name bo
         segment : digits 4 f.name.segment ≡ true
         segment = of-digits 4 f.name.segment the-file.name.segment
 
+        noted : Format → RequestValues
+        noted z = take_noted t (update_of z (records_in f.body)) q
+
         go : (k : Format) → f.name.format ≡ k → take_summary t k (summary_of f) q ≡ take_by t k f.name (records_in f.body) q
         go F201 k = ap (λ (d : ℕ). take_year d q) (sym (segment-digit f.name.segment segment))
-        go F202 k = refl
-        go F203 k = ap (λ (z : Format). take_update t (flag_of (records_in f.body)) (access_of z (records_in f.body)) q) k
-        go F301 k = refl
+        go F202 k = ap noted k
+        go F203 k = ap noted k
+        go F301 k = ap noted k

@@ -5,7 +5,7 @@ ghost use Rattle.schedule.specs.Rates.{stored_of};
 ghost use Rattle.about_store.specs.Run.{put_records};
 ghost use Rattle.taking.specs.Taking.{Following};
 
-use layout::RATES;
+use layout::Records;
 use pool::Pool;
 use rules::Format;
 
@@ -24,14 +24,9 @@ pub(crate) fn put_records(
 {
     let mut pool = held;
     let mut slot = start;
-    let mut t = s;
-    for _ in 0..count {
-        let n = layout::rate_count(t);
-        let end = RATES + n as usize;
-        pool = schedule::put_run(pool, floor, slot, &t[RATES..end], store);
-        slot += n;
-        let next = end + layout::tail_digits(format);
-        t = &t[next..];
+    for parts in Records::new(format, count, s) {
+        pool = schedule::put_run(pool, floor, slot, parts.rates, store);
+        slot += parts.rates.len() as u32;
     }
     pool
 }

@@ -6,14 +6,13 @@ use rules::Cause;
 use unit::Unit;
 
 // In the order of 01's table: 3, 4, 5.
-pub(crate) fn check(unit: Unit, store: &[u8]) -> Result<u32, Cause>
+#[tactic(auto, unfolding(crate::specs::Ready::ready_of, unit::specs::Calls::lent_of, rules::specs::Table::first_of))]
+pub(crate) fn check(unit: Unit, store: &[u8]) -> Result<(), Cause>
     ensures { result ≡ ready_of unit store.now }
 {
-    if store.len() != Unit::STORE_LENGTH {
-        return Err(Cause::StoreLength);
+    unit.lent(store)?;
+    if unit.clock.is_none() {
+        return Err(Cause::ClockUnset);
     }
-    if !(unit.sound() & schedule::store_holds(unit.pool, store)) {
-        return Err(Cause::Unsound);
-    }
-    unit.clock.ok_or(Cause::ClockUnset)
+    Ok(())
 }

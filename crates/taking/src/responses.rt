@@ -6,21 +6,16 @@ use rules::Cause;
 use unit::{Done, Unit};
 
 // A response, by its boundary and its bytes. Unit and store are looked at once, and the response only after them.
+#[tactic(auto, unfolding(crate::specs::Ready::ready_of, crate::specs::Taken::outcome_taken, crate::specs::Taken::store_taken, rules::specs::Table::first_of))]
 pub fn take_response(unit: Unit, boundary: &[u8], bytes: &[u8], store: &mut [u8]) -> Done<()>
     ensures answer { result ≡ response_of unit store.old boundary.now bytes.now }
     ensures kept { store.new ≡ store_after_response unit store.old boundary.now bytes.now }
 {
     match crate::ready::check(unit, store) {
         Err(cause) => unit.refuse(cause),
-        Ok(t) => match response::find(boundary, bytes) {
+        Ok(()) => match response::find(boundary, bytes) {
             None => unit.refuse(Cause::Response),
-            Some(places) => crate::take::take_checked(
-                unit,
-                t,
-                &bytes[places.name_at..places.name_end],
-                &bytes[places.file_at..places.file_end],
-                store,
-            ),
+            Some(carried) => crate::take::take_checked(unit, carried.name, carried.file, store),
         },
     }
 }

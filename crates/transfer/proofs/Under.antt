@@ -7,10 +7,11 @@ use mathlib.Core.List.{List, []}
 use lib.Dec.{eqb}
 use lib.ListN.{length}
 use borrow.Author.Tests.{eqb-true}
-use Rattle.rules.specs.Digits.{all_digits, digits, value, same_bytes}
+use Rattle.rules.specs.Digits.{all_digits, digits, value}
 use Rattle.rules.specs.Name.{Name, parse_name}
 use Rattle.rules.specs.Body.{Body, parse_body, is_schedule}
 use Rattle.rules.specs.File.{with_body, read_file, take_file, id_fits}
+use Rattle.rules.specs.Table.{need}
 use Rattle.rules.specs.declared.Cause.{Cause}
 use Rattle.rules.specs.declared.Format.{Format}
 use Rattle.rules.specs.Reading.{reading_of}
@@ -18,20 +19,11 @@ use Rattle.rules.specs.declared.Summary.{Summary}
 use Rattle.laws.proofs.Tests.{both}
 use Rattle.body.specs.Reading.{name_of}
 use Rattle.body.proofs.Outcomes.{created-free}
-use Rattle.name.specs.Read.{plant_digits}
+use Rattle.name.specs.Read.{plant_digits, name_read}
 use Rattle.name.specs.declared.Fields.{Fields}
-use Rattle.name.proofs.Laws.{Read, parsed, plant-is}
+use Rattle.name.proofs.Laws.{Read, parsed, plant-is, read-broken, read_named}
 use Rattle.about_files.proofs.Numerals.{decimal-value}
 use Rattle.transfer.specs.Under.{under_name, for_plant}
-
--- 7: the name breaks its form
-pub no_name : (plant : Option (List ℕ)) (name body : List ℕ) → parse_name name ≡ None → reading_of (read_file plant name body) ≡ Err Cause.Name
-unfolding read_file reading_of
-no_name plant name body e = rw e
-
-pub no-name-taken : (plant name body : List ℕ) → parse_name name ≡ None → reading_of (take_file plant name body) ≡ Err Cause.Name
-unfolding take_file read_file reading_of
-no-name-taken plant name body e = rw e
 
 -- a body under a name, and under the fields that were read of it
 under : (n : Name) (f : Format) (segment : ℕ) (plant : List ℕ) (b : Option Body) → f ≡ n.format → segment ≡ value n.segment → plant ≡ n.plant
@@ -39,15 +31,6 @@ under : (n : Name) (f : Format) (segment : ℕ) (plant : List ℕ) (b : Option B
 under n f segment plant b e h k l =
     let d = both (eqb (length n.segment) 4) (all_digits n.segment) l in
     rw (e, h, k, decimal-value n.segment 4 (eqb-true _ _ d.0) d.1) (created-free n.format n.segment n.plant [] n.created b)
-
--- the two ways to go on from the ID
-pub other_id : (fits : Bool) (f : Fields) (id body : List ℕ) → fits ≡ false → Err Cause.OtherPlant ≡ reading_of (under_name fits f id body)
-unfolding reading_of
-other_id fits f id body e = rw e refl
-
-pub same_id : (fits : Bool) (f : Fields) (id body : List ℕ) (r : Result Summary Cause) → fits ≡ true
-    → r ≡ reading_of (with_body (name_of f.format f.segment id) (parse_body f.format body)) → r ≡ reading_of (under_name fits f id body)
-same_id fits f id body r e k = rw e k
 
 module _ (name body : List ℕ) (f : Fields) (read : Read (parse_name name) f) where
   abbrev n : Name
@@ -71,7 +54,7 @@ module _ (name body : List ℕ) (f : Fields) (read : Read (parse_name name) f) w
   other-plant plant e = rw (read.found, ← plant-is name n read.found, e)
 
   -- from the ID on, its digits as they were read
-  pub under-read : (plant : Option (List ℕ)) (fits : Bool) → fits ≡ id_fits plant (plant_digits name)
+  under-read : (plant : Option (List ℕ)) (fits : Bool) → fits ≡ id_fits plant (plant_digits name)
       → reading_of (under_name fits f (plant_digits name) body) ≡ reading_of (read_file plant name body)
   unfolding reading_of
   under-read plant true e =
@@ -80,14 +63,40 @@ module _ (name body : List ℕ) (f : Fields) (read : Read (parse_name name) f) w
       ∙ sym (named plant (ap (id_fits plant) (sym (plant-is name n read.found)) ∙ sym e))
   under-read plant false e = other-plant plant (sym e)
 
-  pub plant-read : (plant : List ℕ) → reading_of (for_plant f plant name body) ≡ reading_of (read_file (Some plant) name body)
-  plant-read plant = under-read (Some plant) (same_bytes (plant_digits name) plant) refl
+-- ---- what is read, by the fields that the name has
 
-  -- 301 is not taken; any other file is read for the plant
-  pub not_taken : (plant : List ℕ) → is_schedule f.format ≡ false → reading_of (take_file plant name body) ≡ Err Cause.Name
-  unfolding take_file reading_of
-  not_taken plant e = rw (read.found, ← read.format, e)
+abbrev pub read_by : Option (List ℕ) → List ℕ → List ℕ → Option Fields → Result Summary Cause
+read_by plant name body None = Err Cause.Name
+read_by plant name body (Some f) = reading_of (under_name (id_fits plant (plant_digits name)) f (plant_digits name) body)
 
-  pub taken : (plant : List ℕ) → is_schedule f.format ≡ true → reading_of (take_file plant name body) ≡ reading_of (read_file (Some plant) name body)
-  unfolding take_file
-  taken plant e = rw (read.found, ← read.format, e)
+-- 7: the name breaks its form
+no_name : (plant : Option (List ℕ)) (name body : List ℕ) → parse_name name ≡ None → reading_of (read_file plant name body) ≡ Err Cause.Name
+unfolding read_file reading_of
+no_name plant name body e = rw e
+
+pub read_as : (plant : Option (List ℕ)) (name body : List ℕ)
+    → reading_of (read_file plant name body) ≡ read_by plant name body (name_read (parse_name name))
+read_as plant name body = go (name_read (parse_name name)) refl
+  where
+    go : (o : Option Fields) → o ≡ name_read (parse_name name) → reading_of (read_file plant name body) ≡ read_by plant name body o
+    go None e = no_name plant name body (read-broken (parse_name name) e)
+    go (Some f) e =
+        sym (under-read name body f (read_named (parse_name name) f e) plant (id_fits plant (plant_digits name)) refl)
+
+-- 301 is not taken; any other file is read for the plant
+abbrev pub taken_by : List ℕ → List ℕ → List ℕ → Option Fields → Result Summary Cause
+taken_by plant name body None = Err Cause.Name
+taken_by plant name body (Some f) = need (is_schedule f.format) (Err Cause.Name) (reading_of (for_plant f plant name body))
+
+taken : (plant name body : List ℕ) (o : Option Name) → parse_name name ≡ o
+    → reading_of (take_file plant name body) ≡ taken_by plant name body (name_read o)
+unfolding take_file reading_of
+taken plant name body None e = rw e (no_name (Some plant) name body e)
+taken plant name body (Some n) e = go (is_schedule n.format) refl
+  where
+    go : (t : Bool) → is_schedule n.format ≡ t → reading_of (take_file plant name body) ≡ taken_by plant name body (name_read (Some n))
+    go true k = rw (e, k) (rw e at (read_as (Some plant) name body))
+    go false k = rw (e, k) refl
+
+pub take_as : (plant name body : List ℕ) → reading_of (take_file plant name body) ≡ taken_by plant name body (name_read (parse_name name))
+take_as plant name body = taken plant name body (parse_name name) refl

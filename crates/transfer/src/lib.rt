@@ -10,17 +10,18 @@ use name::Fields;
 use rules::{Cause, Summary};
 
 // Cause 8 where the name's ID does not fit, else what the body says under the name's fields.
+#[tactic(auto, unfolding(rules::specs::Reading::reading_of))]
 fn read_under(fields: Fields, fits: bool, id: &[u8], body: &[u8]) -> Result<Summary, Cause>
     ensures { result ≡ reading_of (under_name fits fields id.now body.now) }
 {
     if !fits {
         return Err(Cause::OtherPlant);
     }
-    let format = fields.format;
-    body::read_body(format, fields.segment, id, body)
+    body::read_body(fields.format, fields.segment, id, body)
 }
 
 // What a name and body say, read without a plant: the name's ID has its check digit.
+#[tactic(auto, using(crate::proofs::Under::read_as))]
 pub fn read(name: &[u8], body: &[u8]) -> Result<Summary, Cause>
     ensures { result ≡ reading_of (read_file None name.now body.now) }
 {
@@ -38,6 +39,7 @@ fn read_named(fields: Fields, plant: &[u8], name: &[u8], body: &[u8]) -> Result<
 }
 
 // What a name and body say, read for a plant.
+#[tactic(auto, using(crate::proofs::Under::read_as))]
 pub fn read_for(plant: &[u8], name: &[u8], body: &[u8]) -> Result<Summary, Cause>
     ensures { result ≡ reading_of (read_file (Some plant.now) name.now body.now) }
 {
@@ -46,13 +48,12 @@ pub fn read_for(plant: &[u8], name: &[u8], body: &[u8]) -> Result<Summary, Cause
 }
 
 // What a name and body say to the unit of a plant that takes them: 301 is not taken.
+#[tactic(auto, using(crate::proofs::Under::take_as))]
 pub fn read_to_take(plant: &[u8], name: &[u8], body: &[u8]) -> Result<Summary, Cause>
     ensures { result ≡ reading_of (take_file plant.now name.now body.now) }
 {
-    let taken = name::read_name(name).ok_or(Cause::Name)?;
-    let scheduled = layout::is_schedule(taken.format);
-    if !scheduled {
-        return Err(Cause::Name);
-    }
+    let taken = name::read_name(name)
+        .filter(|read| layout::is_schedule(read.format))
+        .ok_or(Cause::Name)?;
     read_named(taken, plant, name, body)
 }

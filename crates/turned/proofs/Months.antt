@@ -34,10 +34,6 @@ module _ (n m : ℕ) (month : is_month n m ≡ true) where
         few = leb-true n 1488 p.1;
       }
 
-  -- a row for each day
-  pub day_rows : Rows n m 48
-  day_rows = let l = lengths in record { fits = l.fits; whole = omega arith; few = l.few; short = omega arith }
-
   -- as many rows as half hours
   pub half-hours : n / (n / 48) ≡ 48
   half-hours =

@@ -3,7 +3,8 @@ use Prim.Native.Nat.{ℕ, zero, suc, ◌+◌, ◌*◌, ◌/◌, ◌%◌, ◌≤�
 use mathlib.Core.Path.{◌≡◌, ◌∙◌, refl, sym, ap}
 use mathlib.Core.Bool.{Bool, true, false}
 use mathlib.Core.List.{List}
-use native.Mathlib.Nat.{add-zero, zero-add, suc-mul, mul_comm, zero-mul, zero-mod, zero-div, mul-le-mul_right, mod-lt, mod-eq_of_lt, div-add-mod', div-eq_of_lt, div-lt_iff_lt-mul, mul-add-div_right, mul-add-mod_self_right}
+use native.Mathlib.Nat.{add-zero, zero-add, suc-mul, mul_comm, zero-mul, mul-le-mul_right, mod-lt, mod-eq_of_lt}
+use native.Mathlib.Nat.{div-add-mod', div-eq_of_lt, div-lt_iff_lt-mul, mul-add-div_right, mul-add-mod_self_right}
 use native.Mathlib.Numerals.{add-one}
 use native.Mathlib.Omega.{arith}
 use borrow.Author.Tests.{lt-ltb, le-ltb, ltb-true, ltb-false}
@@ -154,13 +155,11 @@ turned-length days s = (length-rearranged days 48 s ∙ mul_comm days 48, length
 -- ---- the loop
 
 -- what is put at place i is the list's next byte
-pub put_next : (to l : List ℕ) (i x : ℕ) → i < length l → length to ≡ length l → x ≡ get_or l i 0 → take i to ≡ take i l → take (i + 1) (set to i x) ≡ take (i + 1) l
+pub put_next : (to l : List ℕ) (i x : ℕ) → i < length l → length to ≡ length l → x ≡ get_or l i 0 → take i to ≡ take i l
+    → take (i + 1) (set to i x) ≡ take (i + 1) l
 put_next to l i x h e x≡ t =
     let h' : i < length to = omega arith in
     rw (add-one i, take-suc-set to i x h', take-suc l i 0 h, t, x≡) refl
 
 pub put_all : (to l : List ℕ) (i : ℕ) → length l ≤ i → length to ≡ length l → take i to ≡ take i l → to ≡ l
 put_all to l i h e t = sym (take_all i to (omega arith)) ∙ t ∙ take_all i l h
-
-pub place-first : (a b : ℕ) → 0 ≡ source_of a b 0
-place-first a b = rw (zero-mod a, zero-div a, zero-mul b) refl

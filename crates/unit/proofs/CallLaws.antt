@@ -1,4 +1,4 @@
--- What a call answers at each of its returns: one law for each row that applies, and one for the call that is accepted.
+-- Soundness as the code tests it, and what the calls of a sound unit answer: one law for each row that applies, and one for the call that is accepted.
 use Rattle.std.specs.Prelude.{Some, None, Ok, Err}
 use Prim.Native.Nat.{ℕ, ◌*◌}
 use mathlib.Core.Path.{◌≡◌, ap}
@@ -7,25 +7,23 @@ use mathlib.Core.List.{map}
 use lib.Dec.{leb, ltb}
 use Rattle.rules.specs.Calendar.{month_count}
 use Rattle.rules.specs.Plant.{last_digit}
-use Rattle.rules.specs.Store.{sound_unit, sound_months, sound_blocks, sound_requests, sound_clock, fresh_requests}
+use Rattle.rules.specs.Store.{sound_unit, sound_months, sound_blocks, sound_requests, sound_clock}
 use Rattle.rules.specs.Machine.{failed, is_status}
 use Rattle.rules.specs.Table.{first_of}
 use Rattle.rules.specs.declared.Cause.{Cause}
-use Rattle.rules.specs.declared.Due.{Due}
 use Rattle.rules.specs.declared.Kind.{Kind}
 use Rattle.plant.specs.Plant.{settings_of, valid_plant}
-use Rattle.plant.specs.declared.Plant.{Plant}
 use Rattle.pool.specs.Blocks.{free_count, is_free}
 use Rattle.pool.specs.Held.{held_of, sound_pool}
 use Rattle.polling.specs.Requests.{requests_of, requests_from}
 use Rattle.polling.specs.Due.{due_for}
 use Rattle.polling.specs.declared.Requests.{Requests}
-use Rattle.unit.specs.Values.{values_of, is_sound, fresh_pool, fresh_unit}
+use Rattle.unit.specs.Values.{values_of, is_sound}
 use Rattle.unit.specs.Calls.{refusal, lost, lost_of, with_failure, failure_of, due_of, command_of, free_of}
 use Rattle.unit.specs.declared.Unit.{Unit}
 
 -- soundness, as the code tests it
-pub sound-is : (u : Unit)
+pub sound_is : (u : Unit)
     → is_sound u
     ≡ (valid_plant u.plant
     && ltb u.floor month_count
@@ -34,41 +32,14 @@ pub sound-is : (u : Unit)
     && sound_clock (u.clock)
     && leb u.command (6000 * u.plant.settings.minutes))
 unfolding is_sound values_of sound_unit valid_plant sound_pool
-sound-is u =
+sound_is u =
     let months = sound_months u.floor (map (λ h. h.month) (held_of u.pool)) in
     let blocks = sound_blocks (is_free u.pool) (map (λ h. h.block) (held_of u.pool)) in
     let requests = sound_requests (settings_of u.plant) (requests_of u.requests) in
     ap (λ (b : Bool). b && requests && sound_clock (u.clock) && leb u.command (6000 * u.plant.settings.minutes))
     (and_assoc (valid_plant u.plant && ltb u.floor month_count) months blocks)
 
--- the fresh unit, with requests that are the fresh ones
-pub fresh-is : (p : Plant) (q : Requests) → q ≡ requests_from fresh_requests
-    → ◌≡◌ {A = Unit} (record { plant = p; pool = fresh_pool; requests = q; clock = None; floor = 0; command = 0 }) (fresh_unit p)
-unfolding fresh_unit
-fresh-is p q e = rw e
-
 module _ (u : Unit) where
-  module _ (bad : is_sound u ≡ false) where
-    pub lost-unsound : lost_of u ≡ refusal u Cause.Unsound
-    unfolding lost_of first_of
-    lost-unsound = rw bad
-
-    pub failure-unsound : (kind : Kind) (status : ℕ) → failure_of u kind status ≡ refusal u Cause.Unsound
-    unfolding failure_of first_of
-    failure-unsound kind status = rw bad
-
-    pub due-unsound : due_of u ≡ Err Cause.Unsound
-    unfolding due_of first_of
-    due-unsound = rw bad
-
-    pub command-unsound : command_of u ≡ Err Cause.Unsound
-    unfolding command_of first_of
-    command-unsound = rw bad
-
-    pub free-unsound : free_of u ≡ Err Cause.Unsound
-    unfolding free_of first_of
-    free-unsound = rw bad
-
   module _ (good : is_sound u ≡ true) where
     pub lost-done : lost_of u ≡ record { unit = lost u; answer = Ok tt }
     unfolding lost_of first_of

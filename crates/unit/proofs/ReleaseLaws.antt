@@ -95,7 +95,7 @@ rate-released p store floor s t sound l =
     let m = month_of_slot (slot_of t) in
     let later : month_of_second s ≤ m = rw (month-slot t) at (month-monotone s t l) in
     ap (λ (r : Option ℕ). rate_found r store (slot_of t - first_slot m))
-    (find_released p floor (raised_floor floor s) m sound (λ h. let low = sound.low m h.0 h.1 in max-le low (omega arith)))
+    (find_released p floor (raised_floor floor s) m sound (λ h. max-le (sound.low m h.0 h.1) (omega arith)))
 
 -- ---- the store
 
@@ -113,7 +113,8 @@ module _ (p : Pool) (floor : ℕ) (store : List ℕ) where
       go : (x y : Bool) → (x ≡ true → y ≡ true)
           → (sound_store (held_below k p) store ≡ true → sound_store (held_below k (release_of p floor)) store ≡ true)
           → sound_store (cond x (held_below k p) (record { month = month_of p k; block = k } ∷ held_below k p)) store ≡ true
-          → sound_store (cond y (held_below k (release_of p floor)) (record { month = month_of p k; block = k } ∷ held_below k (release_of p floor))) store ≡ true
+          → let q = release_of p floor in
+          sound_store (cond y (held_below k q) (record { month = month_of p k; block = k } ∷ held_below k q)) store ≡ true
       go true true free rest d = rest d
       go false true free rest d = rest (both block (sound_store (held_below k p) store) d).1
       go false false free rest d = let w = both block (sound_store (held_below k p) store) d in ap₂ ◌&&◌ w.0 (rest w.1)
@@ -164,12 +165,14 @@ pub block-legal : (store : List ℕ) (m b i : ℕ) → i < slots_of_month m → 
 unfolding sound_block
 block-legal store m b i l e =
     let days = (days-range m).1 in
-    let rates = (both (all lawful_byte (take (slots_of_month m) (block_of store b))) (all (λ x. eqb x no_rate) (drop (slots_of_month m) (block_of store b))) e).0 in
-    let same : get_or (take (slots_of_month m) (block_of store b)) i no_rate ≡ get_or store (place b i) no_rate =
-    get_or-take (slots_of_month m) (block_of store b) i no_rate l
+    let block = block_of store b in
+    let n = slots_of_month m in
+    let rates = (both (all lawful_byte (take n block)) (all (λ x. eqb x no_rate) (drop n block)) e).0 in
+    let same : get_or (take n block) i no_rate ≡ get_or store (place b i) no_rate =
+    get_or-take n block i no_rate l
     ∙ get_or-take block_length (drop (b * block_length) store) i no_rate (omega arith)
     ∙ get_or-drop (b * block_length) store i no_rate in
-    byte-legal (get_or store (place b i) no_rate) (rw same at (all-at lawful_byte (take (slots_of_month m) (block_of store b)) i no_rate refl rates))
+    byte-legal (get_or store (place b i) no_rate) (rw same at (all-at lawful_byte (take n block) i no_rate refl rates))
 
 -- a sound store gives no rate above 100
 pub rate-legal : (p : Pool) (store : List ℕ) (s : ℕ) → s < slot_count → sound_store (held_of p) store ≡ true → or_zero (stored_rate p store s) ≤ highest_rate

@@ -12,7 +12,7 @@ use Rattle.pool.specs.Held.{held_of, sound_pool}
 use Rattle.polling.specs.Requests.{requests_of}
 use Rattle.unit.specs.Values.{is_sound}
 use Rattle.unit.specs.declared.Unit.{Unit}
-use Rattle.unit.proofs.CallLaws.{sound-is}
+use Rattle.unit.proofs.CallLaws.{sound_is}
 
 pub record SoundParts (u : Unit) : Type 0 where
   pub plant : valid_plant u.plant ≡ true
@@ -29,7 +29,7 @@ sound-parts u e =
     let p = sound_pool u.pool u.floor in
     let q = sound_requests (settings_of u.plant) (requests_of u.requests) in
     let k = sound_clock (u.clock) in
-    let a = both (v && f && p && q && k) (leb u.command (6000 * u.plant.settings.minutes)) (sym (sound-is u) ∙ e) in
+    let a = both (v && f && p && q && k) (leb u.command (6000 * u.plant.settings.minutes)) (sym (sound_is u) ∙ e) in
     let b = both (v && f && p && q) k a.0 in
     let d = both (v && f && p) q b.0 in
     let g = both (v && f) p d.0 in
@@ -37,7 +37,7 @@ sound-parts u e =
     record { plant = h.0; floor = h.1; pool = g.1; requests = d.1; clock = b.1; command = a.1 }
 
 pub parts-sound : (u : Unit) → SoundParts u → is_sound u ≡ true
-parts-sound u s = sound-is u ∙ rw (s.plant, s.floor, s.pool, s.requests, s.clock, s.command)
+parts-sound u s = sound_is u ∙ rw (s.plant, s.floor, s.pool, s.requests, s.clock, s.command)
 
 -- a sound unit, and a store that is sound with it
 pub record SoundWith (u : Unit) (store : List ℕ) : Type 0 where

@@ -1,26 +1,25 @@
--- What tick answers at each of its returns; when it is accepted; and that it then leaves a sound unit and a sound store sound.
+-- What tick answers where it is accepted; when it is; and that it then leaves a sound unit and a sound store sound.
 use Rattle.std.specs.Prelude.{Some, None, Ok, Err, Option, is_ok}
-use Prim.Native.Nat.{ℕ, ◌-◌, ◌≤◌, ◌<◌}
-use native.Mathlib.Omega.{arith}
+use Prim.Native.Nat.{ℕ, ◌-◌, ◌<◌}
 use mathlib.Core.Path.{◌≡◌, ◌∙◌, refl, sym, ap}
 use mathlib.Core.Bool.{Bool, true, false, cond, not, ◌&&◌, false≢true}
 use mathlib.Core.List.{List}
 use lib.Dec.{leb, ltb, eqb}
 use lib.ListN.{length}
-use borrow.Author.Tests.{lt-ltb, le-ltb, eq-eqb, ne_eqb, ltb-true, leb-true, leb-false, eqb-true}
+use borrow.Author.Tests.{lt-ltb, eq-eqb, ltb-true, leb-true, leb-false, eqb-true}
 use Rattle.rules.specs.Calendar.{end_of_time}
+use Rattle.rules.specs.Causes.{Answer}
 use Rattle.rules.specs.Store.{store_length, sound_store}
 use Rattle.rules.specs.Table.{first_of}
 use Rattle.rules.specs.declared.Cause.{Cause}
 use Rattle.laws.proofs.Tests.{both}
 use Rattle.pool.specs.Held.{held_of}
-use Rattle.schedule.specs.Stored.{store_holds}
 use Rattle.ramp.proofs.Laws.{after-no-second, after-over}
 use Rattle.unit.specs.Values.{is_sound}
-use Rattle.unit.specs.Calls.{done_by, refusal, set_clock, with_command, seconds, tick_from, ticked, tick_of}
+use Rattle.unit.specs.Calls.{done_by, set_clock, with_command, seconds, tick_from, ticked, tick_of, lent_of}
 use Rattle.unit.specs.Ticks.{command_at}
 use Rattle.unit.specs.declared.Unit.{Unit}
-use Rattle.unit.proofs.LentLaws.{lent_row}
+use Rattle.unit.proofs.LentLaws.{lent-good}
 use Rattle.unit.proofs.SoundParts.{SoundWith}
 use Rattle.unit.proofs.Seconds.{jumped, seconds-once, few, low}
 
@@ -46,28 +45,15 @@ module _ (u : Unit) (good : is_sound u ≡ true) where
   unfolding ticked
   ticked-jump store t = from-clock store t u.clock
 
--- ---- what tick answers at each of its returns
-
-module _ (u : Unit) (store : List ℕ) (t : ℕ) where
-  pub tick-length : (length store ≡ store_length → ⊥) → tick_of u store t ≡ refusal u Cause.StoreLength
-  unfolding tick_of first_of
-  tick-length n = rw (ne_eqb (length store) store_length n)
-
-  module _ (long : length store ≡ store_length) where
-    pub tick-unsound : (is_sound u && store_holds u.pool store) ≡ false → tick_of u store t ≡ refusal u Cause.Unsound
-    unfolding tick_of first_of
-    tick-unsound bad = rw (eq-eqb (length store) store_length long, lent_row u store false long bad)
-
-    module _ (good : (is_sound u && store_holds u.pool store) ≡ true) where
-      pub tick-range : end_of_time ≤ t → tick_of u store t ≡ refusal u Cause.Range
-      unfolding tick_of first_of
-      tick-range h = rw (eq-eqb (length store) store_length long, lent_row u store true long good, le-ltb t end_of_time h)
-
-      pub tick-done : t < end_of_time → tick_of u store t ≡ record { unit = jumped u t (command_at u.clock u store t); answer = Ok tt }
-      unfolding tick_of first_of
-      tick-done h =
-          rw (eq-eqb (length store) store_length long, lent_row u store true long good, lt-ltb t end_of_time h)
-          (ap (λ (v : Unit). record { unit = v; answer = Ok tt }) (ticked-jump u (both (is_sound u) (store_holds u.pool store) good).0 store t))
+-- what tick answers where neither the store's rows nor the second's apply
+pub ticks : (u : Unit) (store : List ℕ) (t : ℕ) (r : Answer) → r ≡ lent_of u store → ((c : Cause) → r ≡ Err c → ⊥) → t < end_of_time
+    → tick_of u store t ≡ record { unit = jumped u t (command_at u.clock u store t); answer = Ok tt }
+unfolding tick_of first_of
+ticks u store t r e n h =
+    let lent = lent-good u store r e n in
+    let good = both (is_sound u) (sound_store (held_of u.pool) store) lent.good in
+    rw (eq-eqb (length store) store_length lent.long, lent.good, lt-ltb t end_of_time h)
+    (ap (λ (v : Unit). record { unit = v; answer = Ok tt }) (ticked-jump u good.0 store t))
 
 -- ---- ticks that are accepted
 

@@ -1,6 +1,7 @@
 -- What each call of the unit answers and leaves. A refused call leaves unit and store as they were.
 use Rattle.std.specs.Prelude.{ℕ, zero, suc, ◌-◌, cond, List, [], ◌∷◌, leb, Some, None, Result, Ok, Err, Option}
 use Rattle.rules.specs.Calendar.{slot_of}
+use Rattle.rules.specs.Causes.{Answer}
 use Rattle.rules.specs.Plant.{last_digit}
 use Rattle.rules.specs.Machine.{raised_floor, approach, target, failed}
 use Rattle.rules.specs.Table.{first_of}
@@ -25,6 +26,15 @@ done_by (Some c) new old = record { unit = old; answer = Err c }
 
 abbrev pub refusal : Unit → Cause → Done
 refusal u c = record { unit = u; answer = Err c }
+
+-- the answer where no row applies, else the cause
+abbrev pub answer_by : {A : Type 0} → Option Cause → A → Result A Cause
+answer_by None a = Ok a
+answer_by (Some c) a = Err c
+
+-- 3 and 4, which are looked at first where a store is lent
+unfoldable pub lent_of : Unit → List ℕ → Answer
+lent_of u store = answer_by (first_of (length_row store ∷ sound_row u store ∷ [])) tt
 
 -- ---- tick
 
@@ -99,35 +109,18 @@ failure_of u kind status = done_by (first_of (unit_row u ∷ clock_row u ∷ sta
 
 -- ---- the questions
 
--- the answer where no row applies, else the cause
-abbrev pub due_by : Option Cause → Option Due → Result (Option Due) Cause
-due_by None a = Ok a
-due_by (Some c) a = Err c
-
 unfoldable pub due_of : Unit → Result (Option Due) Cause
 due_of u =
-    due_by (first_of (unit_row u ∷ clock_row u ∷ []))
+    answer_by (first_of (unit_row u ∷ clock_row u ∷ []))
     (due_for (settings_of u.plant) (last_digit u.plant.id) (clock_time u.clock) (requests_of u.requests))
-
-abbrev pub ceiling_by : Option Cause → Option Ceiling → Result (Option Ceiling) Cause
-ceiling_by None a = Ok a
-ceiling_by (Some c) a = Err c
 
 unfoldable pub ceiling_of : Unit → List ℕ → ℕ → Result (Option Ceiling) Cause
 ceiling_of u store s =
-    ceiling_by (first_of (length_row store ∷ sound_row u store ∷ clock_row u ∷ slot_row s ∷ []))
+    answer_by (first_of (length_row store ∷ sound_row u store ∷ clock_row u ∷ slot_row s ∷ []))
     (slot_ceiling (settings_of u.plant) (stored_rate u.pool store s))
 
-abbrev pub command_by : Option Cause → ℕ → Result ℕ Cause
-command_by None n = Ok n
-command_by (Some c) n = Err c
-
 unfoldable pub command_of : Unit → Result ℕ Cause
-command_of u = command_by (first_of (unit_row u ∷ [])) u.command
-
-abbrev pub free_by : Option Cause → ℕ → Result ℕ Cause
-free_by None n = Ok n
-free_by (Some c) n = Err c
+command_of u = answer_by (first_of (unit_row u ∷ [])) u.command
 
 unfoldable pub free_of : Unit → Result ℕ Cause
-free_of u = free_by (first_of (unit_row u ∷ [])) (free_count u.pool)
+free_of u = answer_by (first_of (unit_row u ∷ [])) (free_count u.pool)

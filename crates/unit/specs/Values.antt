@@ -1,5 +1,5 @@
 -- The unit's struct in the words of 01: its values, its soundness, and the fresh unit.
-use Rattle.std.specs.Prelude.{ℕ, Bool, List, replicate, Some, None, Option}
+use Rattle.std.specs.Prelude.{ℕ, Bool, List, replicate, None}
 use Rattle.rules.specs.Plant.{Settings}
 use Rattle.rules.specs.Store.{Values, sound_unit, fresh_requests, block_count}
 use Rattle.pool.specs.Blocks.{is_free, all_free}

@@ -10,15 +10,11 @@ use rules::{Cause, Ceiling};
 const SLOT_COUNT: u64 = rules::SLOT_COUNT as u64;
 
 impl Unit {
+    #[tactic(auto, unfolding(crate::specs::Calls::ceiling_of, crate::specs::Calls::lent_of, rules::specs::Table::first_of))]
     fn ceiling_answer(self, slot: u64, store: &[u8]) -> Result<Option<Ceiling>, Cause>
         ensures { result ≡ ceiling_of self store.now slot }
     {
-        if store.len() != Unit::STORE_LENGTH {
-            return Err(Cause::StoreLength);
-        }
-        if !(self.sound() & schedule::store_holds(self.pool, store)) {
-            return Err(Cause::Unsound);
-        }
+        self.lent(store)?;
         if self.clock.is_none() {
             return Err(Cause::ClockUnset);
         }

@@ -5,7 +5,7 @@ ghost use Rattle.std.specs.Prelude.{◌≡◌};
 ghost use Rattle.rules.specs.Store.{sound_clock};
 ghost use Rattle.plant.specs.Plant.{given_of};
 ghost use Rattle.unit.specs.Values.{is_sound, fresh_unit, installed_unit};
-ghost use Rattle.unit.specs.Calls.{refusal, lost_of, failure_of, due_of, command_of, free_of};
+ghost use Rattle.unit.specs.Calls.{refusal, lent_of, lost_of, failure_of, due_of, command_of, free_of};
 ghost use Rattle.unit.specs.Asked.{due_asked, command_asked, free_asked};
 
 mod ceiling_asked;
@@ -50,13 +50,11 @@ const FULL_COMMAND: u64 = 6000;
 fn sound_clock(clock: Option<u32>) -> bool
     ensures { result ≡ sound_clock clock }
 {
-    match clock {
-        None => true,
-        Some(t) => t < END_OF_TIME,
-    }
+    clock.is_none_or(|t| t < END_OF_TIME)
 }
 
 // The fresh unit of a plant.
+#[tactic(auto, unfolding(crate::specs::Values::fresh_unit))]
 fn fresh(plant: Plant) -> Unit
     ensures { result ≡ fresh_unit plant }
 {
@@ -82,6 +80,7 @@ impl Unit {
     pub const STORE_LENGTH: usize = rules::STORE_LENGTH;
 
     // The fresh unit of these values, or cause 1 or 2.
+    #[tactic(auto, unfolding(crate::specs::Values::installed_unit))]
     pub fn install(id: &[u8], mac: &[u8], given: GivenSettings) -> Installed
         ensures { result ≡ installed_unit id.now mac.now (given_of given) }
     {
@@ -93,6 +92,7 @@ impl Unit {
     }
 
     // Whether the unit is sound in 01's words.
+    #[tactic(auto, using(crate::proofs::CallLaws::sound_is))]
     pub fn sound(self) -> bool
         ensures { result ≡ is_sound self }
     {
@@ -103,6 +103,20 @@ impl Unit {
             & self.requests.sound(settings)
             & sound_clock(self.clock)
             & (self.command as u64 <= FULL_COMMAND * settings.minutes as u64)
+    }
+
+    // What is looked at first where a store is lent, in the order of 01's table: 3, then 4.
+    #[tactic(auto, unfolding(crate::specs::Calls::lent_of, rules::specs::Table::first_of, schedule::specs::Stored::store_holds))]
+    pub fn lent(self, store: &[u8]) -> Result<(), Cause>
+        ensures { result ≡ lent_of self store.now }
+    {
+        if store.len() != Unit::STORE_LENGTH {
+            return Err(Cause::StoreLength);
+        }
+        if !(self.sound() & schedule::store_holds(self.pool, store)) {
+            return Err(Cause::Unsound);
+        }
+        Ok(())
     }
 
     // The unit as it was, with an answer.
@@ -120,6 +134,7 @@ impl Unit {
     }
 
     // The clock is lost: unset, and the command 0.
+    #[tactic(auto, unfolding(crate::specs::Calls::lost_of, crate::specs::Calls::lost, rules::specs::Table::first_of))]
     pub fn clock_lost(self) -> Done<()>
         ensures { result ≡ lost_of self }
     {
@@ -137,6 +152,7 @@ impl Unit {
     }
 
     // A request for the update or the fixed schedule failed with that status.
+    #[tactic(auto, unfolding(crate::specs::Calls::failure_of, crate::specs::Calls::with_failure, rules::specs::Table::first_of))]
     pub fn failure(self, kind: Kind, status: u64) -> Done<()>
         ensures { result ≡ failure_of self kind status }
     {
@@ -159,6 +175,7 @@ impl Unit {
         }
     }
 
+    #[tactic(auto, unfolding(crate::specs::Calls::due_of, rules::specs::Table::first_of))]
     fn due_answer(self) -> Result<Option<Due>, Cause>
         ensures { result ≡ due_of self }
     {
@@ -177,6 +194,7 @@ impl Unit {
         self.answering(self.due_answer())
     }
 
+    #[tactic(auto, unfolding(crate::specs::Calls::command_of, rules::specs::Table::first_of))]
     fn command_answer(self) -> Result<u32, Cause>
         ensures { result ≡ command_of self }
     {
@@ -193,6 +211,7 @@ impl Unit {
         self.answering(self.command_answer())
     }
 
+    #[tactic(auto, unfolding(crate::specs::Calls::free_of, rules::specs::Table::first_of))]
     fn free_answer(self) -> Result<u32, Cause>
         ensures { result ≡ free_of self }
     {

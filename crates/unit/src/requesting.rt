@@ -8,6 +8,7 @@ use crate::{Done, Unit};
 use rules::Cause;
 
 impl Unit {
+    #[tactic(auto, unfolding(crate::specs::Request::request_of))]
     fn request_answer(self, segment: &[u8], out: &mut [u8]) -> Result<usize, Cause>
         ensures answer { result ≡ written_of (request_of self segment.now (length out.old)) }
         ensures buffer { out.new ≡ buffer_after (request_of self segment.now (length out.old)) out.old }

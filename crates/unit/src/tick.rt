@@ -26,15 +26,14 @@ impl Unit {
     fn command_at(self, t: u32, store: &[u8]) -> u32
         ensures { result ≡ command_at self.clock self store.now t }
     {
-        match self.clock {
-            None => self.command,
-            Some(from) => {
-                ramp::command_after(self.plant, self.pool, store, from, t, self.command)
-            }
-        }
+        self.clock.map_or(
+            self.command,
+            |from| ramp::command_after(self.plant, self.pool, store, from, t, self.command),
+        )
     }
 
     // The clock at t, with this command: floor is raised, and blocks of months below it are given back.
+    #[tactic(auto, unfolding(crate::specs::Calls::set_clock, crate::specs::Calls::with_command))]
     fn set_clock(self, t: u32, command: u32) -> Unit
         ensures { result ≡ set_clock t (with_command command self) }
     {
@@ -49,14 +48,12 @@ impl Unit {
     }
 
     // The clock is told to be at second t.
+    #[tactic(auto, unfolding(crate::specs::Calls::tick_of, crate::specs::Calls::lent_of, rules::specs::Table::first_of), using(crate::proofs::TickLaws::ticks))]
     pub fn tick(self, t: u64, store: &[u8]) -> Done<()>
         ensures { result ≡ tick_of self store.now t }
     {
-        if store.len() != Unit::STORE_LENGTH {
-            return self.refuse(Cause::StoreLength);
-        }
-        if !(self.sound() & schedule::store_holds(self.pool, store)) {
-            return self.refuse(Cause::Unsound);
+        if let Err(cause) = self.lent(store) {
+            return self.refuse(cause);
         }
         if END_OF_TIME as u64 <= t {
             return self.refuse(Cause::Range);

@@ -18,10 +18,10 @@ use Rattle.digits.proofs.Placing.{placed-none, placed-next}
 use Rattle.writer.proofs.Records.{month-length}
 
 -- of the fields, months take over the schedule and the plant only
-pub same-months : (w : Fields) (k m : ℕ) (rates : List ℕ) → month_records w k m rates ≡ month_records (month_fields w.plant w.schedule) k m rates
+pub same_months : (w : Fields) (k m : ℕ) (rates : List ℕ) → month_records w k m rates ≡ month_records (month_fields w.plant w.schedule) k m rates
 unfolding month_records
-same-months w zero m rates = refl
-same-months w (suc k) m rates = rw (same-months w k (suc m) (drop (slots_of_month m) rates)) refl
+same_months w zero m rates = refl
+same_months w (suc k) m rates = rw (same_months w k (suc m) (drop (slots_of_month m) rates)) refl
 
 pub count-months : (w : Fields) (k m : ℕ) (rates : List ℕ) → length (month_records w k m rates) ≡ k
 unfolding month_records
@@ -76,9 +76,6 @@ pub record Going (before : List ℕ) (at : ℕ) (w : Fields) (first end : ℕ) (
       ≡ placed before at (months_bytes w.schedule w.plant (end - first) first w.rates)
 
 module _ {before : List ℕ} {at : ℕ} {w : Fields} {first end : ℕ} (h : MonthsRoom (length before) at w first end) where
-  pub months-start : Going before at w first end before first 0 at
-  months-start = record { order = h.given.order; full = omega (arith, h.given.full); enough = omega (arith, h.enough); rest = refl }
-
   module _ {out : List ℕ} {month from place : ℕ} (g : Going before at w first end out month from place) where
     pub months-end : end ≤ month → out ≡ placed before at (months_bytes w.schedule w.plant (end - first) first w.rates)
     months-end l =
@@ -126,8 +123,8 @@ module _ {before : List ℕ} {at : ℕ} {w : Fields} {first end : ℕ} (h : Mont
           let back : from + (to - from) ≡ to = omega arith in
           let left : List ℕ = drop from w.rates in
           let k' = end - (month + 1) in
-          let bytes : months_bytes w.schedule w.plant (end - month) month left
-          ≡ month_bytes w.schedule w.plant month these ++ months_bytes w.schedule w.plant k' (month + 1) (drop to w.rates) =
+          let after = months_bytes w.schedule w.plant k' (month + 1) (drop to w.rates) in
+          let bytes : months_bytes w.schedule w.plant (end - month) month left ≡ month_bytes w.schedule w.plant month these ++ after =
           rw (k, months-more w.schedule w.plant k' month left, drop-drop (slots_of_month month) from w.rates, ← e, back, add-one month) refl in
           let step = first-slot-step month in
           let next : first_slot (month + 1) ≡ first_slot (suc month) = rw add-one refl in
@@ -136,7 +133,7 @@ module _ {before : List ℕ} {at : ℕ} {w : Fields} {first end : ℕ} (h : Mont
             full = omega (arith, g.full);
             enough = omega (arith, g.enough);
             rest =
-                placed-next out (month_bytes w.schedule w.plant month these) (months_bytes w.schedule w.plant k' (month + 1) (drop to w.rates)) place p (omega arith)
+                placed-next out (month_bytes w.schedule w.plant month these) after place p (omega arith)
                 ∙ ap (placed out place) (sym bytes)
                 ∙ g.rest;
           }

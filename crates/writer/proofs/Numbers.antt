@@ -27,14 +27,14 @@ last-digit l at k n =
     sets-append d (n % 10 ∷ []) l at ∙ rw long (sym (sets-set d l at (at + k) (n % 10) (omega arith)))
 
 -- the same at the place i after the last digit
-pub digit-step : (l : List ℕ) (at i n : ℕ) → at < i
+pub digit_step : (l : List ℕ) (at i n : ℕ) → at < i
     → placed l at (decimal (i - at) n) ≡ placed (set l (i - 1) (n % 10)) at (decimal (i - 1 - at) (n / 10))
-digit-step l at i n h =
+digit_step l at i n h =
     let k : i - at ≡ suc (i - 1 - at) = omega arith in
     let j : at + (i - 1 - at) ≡ i - 1 = omega arith in
     rw k (last-digit l at (i - 1 - at) n ∙ rw j refl)
 
 -- no digits are left
-pub digits-end : (l : List ℕ) (at i n : ℕ) → i ≤ at → placed l at (decimal (i - at) n) ≡ l
+pub digits_end : (l : List ℕ) (at i n : ℕ) → i ≤ at → placed l at (decimal (i - at) n) ≡ l
 unfolding placed decimal
-digits-end l at i n h = let e : i - at ≡ 0 = omega arith in rw e refl
+digits_end l at i n h = let e : i - at ≡ 0 = omega arith in rw e refl

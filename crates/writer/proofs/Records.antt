@@ -16,17 +16,14 @@ use Rattle.layout.proofs.Counts.{checksum-is}
 use Rattle.plan.specs.Fields.{month_fields}
 use Rattle.plan.specs.Given.{UpdateGiven}
 use Rattle.writer.specs.Bodies.{head}
-use Rattle.writer.specs.Room.{MonthRoom, UpdateRoom}
+use Rattle.writer.specs.Room.{HeadRoom, MonthRoom, UpdateRoom}
 
 -- ---- a month's start
 
-pub start_is : (m : ℕ) (a b c : List ℕ)
-    → a ≡ placed (replicate 12 0) 0 (decimal 4 (2000 + m / 12))
-    → b ≡ placed a 4 (decimal 2 (m % 12 + 1))
-    → c ≡ placed b 6 (decimal 2 1)
-    → c ≡ month_start m
+pub start_put : (m : ℕ)
+    → placed (placed (placed (replicate 12 0) 0 (decimal 4 (2000 + m / 12))) 4 (decimal 2 (m % 12 + 1))) 6 (decimal 2 1) ≡ month_start m
 unfolding placed decimal
-start_is m a b c ea eb ec = ec ∙ rw (eb, ea) refl
+start_put m = refl
 
 pub start-length : (m : ℕ) → length (month_start m) ≡ 12
 unfolding decimal
@@ -39,21 +36,19 @@ module _ (ident plant start rates : List ℕ) (hs : length ident ≡ 10) (hp : l
   pub head-length : length (head ident plant start rates) ≡ 53 + length rates
   head-length = simp (length-append, length-decimal) (omega arith)
 
-  pub head-placed : (l : List ℕ) (at : ℕ) {a b c d e : List ℕ}
-      → a ≡ placed l at ident
-      → b ≡ placed a (at + 10) plant
-      → c ≡ placed b (at + 36) start
-      → d ≡ placed c (at + 48) (decimal 5 (length rates))
-      → e ≡ placed d (at + 53) rates
-      → e ≡ placed l at (head ident plant start rates)
-  head-placed l at {a} {b} {c} {d} ea eb ec ed ee =
-      let n = decimal 5 (length rates) in
-      let five = length-decimal 5 (length rates) in
-      ee
-      ∙ placed-next c n rates (at + 48) ed (omega arith)
-      ∙ placed-next b start (n ++ rates) (at + 36) ec (omega arith)
-      ∙ placed-next a plant (start ++ (n ++ rates)) (at + 10) eb (omega arith)
-      ∙ placed-next l ident (plant ++ (start ++ (n ++ rates))) at ea (omega arith)
+pub head_put : (l : List ℕ) (at : ℕ) (ident plant start rates : List ℕ) → HeadRoom (length l) at ident plant start rates
+    → placed (placed (placed (placed (placed l at ident) (at + 10) plant) (at + 36) start) (at + 48) (decimal 5 (length rates))) (at + 53) rates
+    ≡ placed l at (head ident plant start rates)
+head_put l at ident plant start rates r =
+    let n = decimal 5 (length rates) in
+    let five = length-decimal 5 (length rates) in
+    let long = r.schedule-long in
+    let a = placed l at ident in
+    let b = placed a (at + 10) plant in
+    placed-next (placed b (at + 36) start) n rates (at + 48) refl (omega arith)
+    ∙ placed-next b start (n ++ rates) (at + 36) refl (omega (arith, r.start-long))
+    ∙ placed-next a plant (start ++ (n ++ rates)) (at + 10) refl (omega (arith, r.plant-long))
+    ∙ placed-next l ident (plant ++ (start ++ (n ++ rates))) at refl (omega arith)
 
 -- and what follows them
 head_more : (ident plant start rates rest : List ℕ)
@@ -89,33 +84,33 @@ update-length w g =
     let next-long = g.next-long in
     omega (arith, ap length e, l₁, l₂, head-length w.schedule w.plant w.start w.rates g.schedule-long g.plant-long g.start-long, length-decimal 2 s)
 
--- ---- a month's record and an update's, put after their heads: s is the checksum that was computed
+-- ---- a month's record and an update's, put after their heads
 
-pub month-placed : (out ident plant start rates : List ℕ) (at m : ℕ) → MonthRoom (length out) at ident plant rates → start ≡ month_start m
-    → {s : ℕ} → s ≡ checksum_for start rates → {a b : List ℕ} → a ≡ placed out at (head ident plant start rates)
-    → b ≡ placed a (at + 53 + length rates) (decimal 2 s) → b ≡ placed out at (encode_record (month_record (month_fields plant ident) m rates))
-month-placed out ident plant start rates at m r e {s} es ea eb =
-    let ht : length start ≡ 12 = ap length e ∙ start-length m in
-    let h = head-length ident plant start rates r.schedule-long r.plant-long ht in
-    eb
-    ∙ placed-next out (head ident plant start rates) (decimal 2 s) at ea (omega arith)
-    ∙ ap (placed out at) (month-bytes ident plant start rates m s e (es ∙ checksum-is start rates r.few))
+pub month_put : (l : List ℕ) (at : ℕ) (ident plant rates : List ℕ) (m : ℕ) → MonthRoom (length l) at ident plant rates
+    → placed (placed l at (head ident plant (month_start m) rates)) (at + 53 + length rates) (decimal 2 (checksum_for (month_start m) rates))
+    ≡ placed l at (encode_record (month_record (month_fields plant ident) m rates))
+month_put l at ident plant rates m r =
+    let start = month_start m in
+    let h = head-length ident plant start rates r.schedule-long r.plant-long (start-length m) in
+    let sum = checksum_for start rates in
+    placed-next l (head ident plant start rates) (decimal 2 sum) at refl (omega arith)
+    ∙ ap (placed l at) (month-bytes ident plant start rates m sum refl (checksum-is start rates r.few))
 
-pub update-placed : (out : List ℕ) (at : ℕ) (w : Fields) → UpdateRoom (length out) at w
-    → {s : ℕ} → s ≡ checksum_for w.start w.rates → {a b c : List ℕ} → a ≡ placed out at (head w.schedule w.plant w.start w.rates)
-    → b ≡ placed (set a (at + 53 + length w.rates) w.flag) (at + 53 + length w.rates + 1) (decimal 2 s)
-    → c ≡ placed b (at + 53 + length w.rates + 1 + 2) w.next
-    → c ≡ placed out at (encode_record (update_record w))
-update-placed out at w r {s} es {a} ea eb ec =
+pub update_put : (l : List ℕ) (at : ℕ) (w : Fields) → UpdateRoom (length l) at w
+    → placed l at (encode_record (update_record w))
+    ≡ placed (placed (set (placed l at (head w.schedule w.plant w.start w.rates)) (at + 53 + length w.rates) w.flag) (at + 53 + length w.rates + 1)
+    (decimal 2 (checksum_for w.start w.rates))) (at + 53 + length w.rates + 1 + 2) w.next
+update_put l at w r =
     let g = r.given in
     let front = head w.schedule w.plant w.start w.rates in
     let h = head-length w.schedule w.plant w.start w.rates g.schedule-long g.plant-long g.start-long in
     let few : length w.rates ≤ 99999 = omega (arith, g.few) in
     let x = at + 53 + length w.rates in
-    let two = length-decimal 2 s in
-    let one = placed_one a x w.flag in
-    ec
-    ∙ placed-next (set a x w.flag) (decimal 2 s) w.next (x + 1) eb (omega arith)
-    ∙ placed-next a (w.flag ∷ []) (decimal 2 s ++ w.next) x (sym one) refl
-    ∙ placed-next out front ((w.flag ∷ []) ++ (decimal 2 s ++ w.next)) at ea (omega arith)
-    ∙ ap (placed out at) (update-bytes w s (es ∙ checksum-is w.start w.rates few))
+    let sum = checksum_for w.start w.rates in
+    let two = length-decimal 2 sum in
+    let a = placed l at front in
+    sym
+    (placed-next (set a x w.flag) (decimal 2 sum) w.next (x + 1) refl (omega arith)
+    ∙ placed-next a (w.flag ∷ []) (decimal 2 sum ++ w.next) x (sym (placed_one a x w.flag)) refl
+    ∙ placed-next l front ((w.flag ∷ []) ++ (decimal 2 sum ++ w.next)) at refl (omega arith)
+    ∙ ap (placed l at) (update-bytes w sum (checksum-is w.start w.rates few)))

@@ -9,6 +9,7 @@ ghost use Rattle.writer.specs.Room.{HeadRoom, MonthRoom, UpdateRoom, MonthsRoom}
 
 use crate::put::put_number;
 use plan::Fields;
+use std::ops::Range;
 
 const FIRST_YEAR: u32 = 2000;
 
@@ -22,6 +23,7 @@ const MONTH_PLACE: usize = 4;
 const DAY_PLACE: usize = 6;
 
 // The first slot of a month, as a start's digits.
+#[tactic(auto, using(crate::proofs::Records::start_put))]
 fn month_start(month: u16) -> [u8; 12]
     ensures { result ≡ month_start month }
 {
@@ -39,6 +41,7 @@ pub(crate) const MONTH_LENGTH: usize = layout::RATES + layout::CHECKSUM_DIGITS;
 pub(crate) const UPDATE_LENGTH: usize = MONTH_LENGTH + layout::FLAG_DIGITS + layout::NEXT_DIGITS;
 
 // A record up to and with its rates.
+#[tactic(auto, using(crate::proofs::Records::head_put))]
 fn put_head(out: &mut [u8], at: usize, fields: Fields)
     requires { HeadRoom (length out.old) at fields.schedule.now fields.plant.now fields.start.now fields.rates.now }
     ensures { out.new ≡ placed out.old at (head fields.entry.schedule.now fields.entry.plant.now fields.entry.start.now fields.entry.rates.now) }
@@ -56,6 +59,7 @@ fn put_head(out: &mut [u8], at: usize, fields: Fields)
 }
 
 // The record of a month, whose rates are all those given; the start given is not looked at.
+#[tactic(auto, using(crate::proofs::Records::month_put))]
 fn put_month(out: &mut [u8], at: usize, fields: Fields, month: u16)
     requires { MonthRoom (length out.old) at fields.schedule.now fields.plant.now fields.rates.now }
     ensures { out.new ≡ placed out.old at (encode_record (month_record (month_fields fields.entry.plant.now fields.entry.schedule.now) month fields.entry.rates.now)) }
@@ -68,14 +72,14 @@ fn put_month(out: &mut [u8], at: usize, fields: Fields, month: u16)
     put_number(out, at_sum, layout::CHECKSUM_DIGITS, sum);
 }
 
-// The records of the months from `first` to before `end`, whose rates stand end to end.
-pub(crate) fn put_months(out: &mut [u8], at: usize, fields: Fields, first: u16, end: u16)
-    requires { MonthsRoom (length out.old) at (given fields) first end }
-    ensures { out.new ≡ placed out.old at (encode_records (months_of (given fields.entry) (end - first) first)) }
+// The records of these months, whose rates stand end to end.
+pub(crate) fn put_months(out: &mut [u8], at: usize, fields: Fields, months: Range<u16>)
+    requires { MonthsRoom (length out.old) at (given fields) months.start months.end }
+    ensures { out.new ≡ placed out.old at (encode_records (months_of (given fields.entry) (months.end - months.start) months.start)) }
 {
     let mut from = 0;
     let mut place = at;
-    for month in first..end {
+    for month in months.start..months.end {
         let slots = SLOTS_OF_DAY * (calendar::days_of_month(month) as usize);
         let to = from + slots;
         let rates = &fields.rates[from..to];
@@ -86,6 +90,7 @@ pub(crate) fn put_months(out: &mut [u8], at: usize, fields: Fields, first: u16, 
 }
 
 // The record of an update.
+#[tactic(auto, using(crate::proofs::Records::update_put))]
 pub(crate) fn put_update(out: &mut [u8], at: usize, fields: Fields)
     requires { UpdateRoom (length out.old) at (given fields) }
     ensures { out.new ≡ placed out.old at (encode_record (update_record (given fields.entry))) }

@@ -3,7 +3,7 @@ use mathlib.Core.Path.{◌≡◌, ◌∙◌}
 use mathlib.Core.List.{List, map}
 use native.Mathlib.Omega.{arith}
 use lib.ListN.{length, get_or}
-use borrow.Author.Tests.{le-leb, lt-leb}
+use borrow.Author.Tests.{le-leb}
 use Rattle.laws.proofs.Bytes.{more-digits}
 use Rattle.rules.specs.Digits.{value_from}
 use Rattle.digits.specs.Decimal.{all_from, number_from}
@@ -14,10 +14,6 @@ use Rattle.digits.proofs.number_from.Goals as goal
 -- the number of the digits that are left, after those before them
 abbrev value_left : ℕ → ℕ → List ℕ → ℕ
 value_left first v rest = value_from v (map (λ x. x - first) rest)
-
-pub returns-then-s-gt-MOST_DIGITS : goal.returns-then-s-gt-MOST_DIGITS
-unfolding number_from
-returns-then-s-gt-MOST_DIGITS g c = simp (lt-leb (length c.args.s.now) 14 c.if-s-gt-MOST_DIGITS.true)
 
 pub returns-then-d-gt-HIGHEST_DIGIT : goal.returns-then-d-gt-HIGHEST_DIGIT
 unfolding number_from

@@ -3,11 +3,8 @@ use lib.ListN.{length}
 use native.Mathlib.Omega.{arith}
 use Rattle.std.proofs.lemmas.Iterator.{empty_from_Zip}
 use Rattle.std.proofs.lemmas.Slice.Zip.{Zip-more}
-use Rattle.digits.proofs.Scan.{same_next, same_none, same_length}
+use Rattle.digits.proofs.Scan.{same_next, same_none}
 use Rattle.digits.proofs.same.Goals as goal
-
-pub returns-then-a-b : goal.returns-then-a-b
-returns-then-a-b c = sym (same_length _ _ c.if-a-b.true)
 
 pub loop-x-preserved : goal.loop-x-preserved
 loop-x-preserved c =

@@ -1,31 +1,42 @@
 -- `groups::put` meets its contract.
-use mathlib.Core.Path.{◌∙◌, sym}
+use mathlib.Core.Path.{◌∙◌}
 use native.Mathlib.Omega.{arith}
 use Rattle.rules.specs.Groups.{groups}
-use Rattle.groups.proofs.Putting.{bytes_fit, place-fits, bytes-stay, place-stays, none-put, none_passed}
+use Rattle.groups.proofs.Putting.{none-put, short-put, all-put, sized, has-groups}
 use Rattle.groups.proofs.put.Goals as goal
 
-pub returns-then-n-ge-LIMIT : goal.returns-then-n-ge-LIMIT
-returns-then-n-ge-LIMIT c =
-    let a = c.args in
-    let h = c.if-n-ge-LIMIT.true in
-    record { next = sym (none_passed a.n a.out.now a.at h); bytes = sym (none-put a.n a.out.now a.at h) }
+pub returns-in_err-length-clause-next : goal.returns-in_err-length-clause-next
+returns-in_err-length-clause-next c = c.from_residual.ensures ∙ (none-put (groups c.args.n) c.args.out.now c.args.at c.in_err-length.ensures).0
 
-pub returns-then-out-at : goal.returns-then-out-at
-returns-then-out-at c =
-    let a = c.args in
-    record { next = sym (place-stays (groups a.n) a.out.now a.at (omega arith)); bytes = sym (bytes-stay (groups a.n) a.out.now a.at (omega arith)) }
+pub returns-in_err-length-clause-bytes : goal.returns-in_err-length-clause-bytes
+returns-in_err-length-clause-bytes c = (none-put (groups c.args.n) c.args.out.now c.args.at c.in_err-length.ensures).1
 
-pub returns-then-out-at-2 : goal.returns-then-out-at-2
-returns-then-out-at-2 c =
-    let a = c.args in
-    record { next = sym (place-stays (groups a.n) a.out.now a.at (omega arith)); bytes = sym (bytes-stay (groups a.n) a.out.now a.at (omega arith)) }
+pub returns-in_err-checked_sub-clause-next : goal.returns-in_err-checked_sub-clause-next
+returns-in_err-checked_sub-clause-next c =
+    c.from_residual-in_err-checked_sub.ensures ∙ (short-put (groups c.args.n) c.args.out.now c.args.at (omega (arith, c.in_err-checked_sub.ensures))).0
 
-pub returns : goal.returns
-returns c =
-    let a = c.args in
-    let e = c.place.ensures in
-    record {
-      next = e.next ∙ sym (place-fits (groups a.n) a.out.now a.at (omega arith));
-      bytes = e.bytes ∙ sym (bytes_fit (groups a.n) a.out.now a.at (omega arith));
-    }
+pub returns-in_err-checked_sub-clause-bytes : goal.returns-in_err-checked_sub-clause-bytes
+returns-in_err-checked_sub-clause-bytes c = (short-put (groups c.args.n) c.args.out.now c.args.at (omega (arith, c.in_err-checked_sub.ensures))).1
+
+pub returns-then-branch-length-clause-next : goal.returns-then-branch-length-clause-next
+returns-then-branch-length-clause-next c =
+    (short-put (groups c.args.n) c.args.out.now c.args.at (omega (arith, sized (groups c.args.n) c.in_ok-length.ensures, c.in_ok-checked_sub.ensures))).0
+
+pub returns-then-branch-length-clause-bytes : goal.returns-then-branch-length-clause-bytes
+returns-then-branch-length-clause-bytes c =
+    (short-put (groups c.args.n) c.args.out.now c.args.at (omega (arith, sized (groups c.args.n) c.in_ok-length.ensures, c.in_ok-checked_sub.ensures))).1
+
+pub place-requires : goal.place-requires
+place-requires c = (has-groups c.args.n c.in_ok-length.ensures, omega (arith, sized (groups c.args.n) c.in_ok-length.ensures, c.in_ok-checked_sub.ensures))
+
+pub returns-clause-next : goal.returns-clause-next
+returns-clause-next c =
+    let long = sized (groups c.args.n) c.in_ok-length.ensures in
+    let at = c.in_ok-checked_sub.ensures in
+    (all-put (groups c.args.n) c.args.out.now c.args.at c.in_ok-length.ensures c.place.ensures.next c.place.ensures.bytes (omega arith)).0
+
+pub returns-clause-bytes : goal.returns-clause-bytes
+returns-clause-bytes c =
+    let long = sized (groups c.args.n) c.in_ok-length.ensures in
+    let at = c.in_ok-checked_sub.ensures in
+    (all-put (groups c.args.n) c.args.out.now c.args.at c.in_ok-length.ensures c.place.ensures.next c.place.ensures.bytes (omega arith)).1

@@ -1,5 +1,5 @@
--- `groups::read` meets its contract. The loop's invariant: the groups before place i and those from it on give the answer.
-use Prim.Native.Nat.{◌<◌, ◌-◌, ◌^◌}
+-- `groups::read` meets its contract. The loop's invariant: the first i + 1 groups and those after them give the answer.
+use Prim.Native.Nat.{◌+◌, ◌<◌, ◌^◌}
 use mathlib.Core.Path.{◌≡◌}
 use Rattle.groups.specs.Placed.{reading_at}
 use Rattle.groups.proofs.Walk.{Left}
@@ -7,7 +7,7 @@ use Rattle.groups.proofs.read.Given as goal
 
 abbrev pub invariant-loop-i : goal.invariant-loop-i
 invariant-loop-i l = record {
-  unit_here : l.unit ≡ 128 ^ (l.i - l.at);
+  unit_here : l.unit ≡ 128 ^ (l.i + 1);
   below : l.value < l.unit;
-  rest : reading_at l.s l.at ≡ Left l.s l.at l.value l.unit l.i;
+  rest : reading_at l.s l.at ≡ Left l.s l.at l.value l.unit (l.i + 1);
 }

@@ -1,8 +1,9 @@
--- `name::values` meets its contract. The loop's invariant: below i the values are written.
+-- `name::values` meets its contract. The loop's invariant: below i stand the values, and from there on the bytes.
 use mathlib.Core.Path.{◌≡◌}
-use lib.ListN.{take}
+use mathlib.Core.List.{◌++◌}
+use lib.ListN.{take, drop}
 use Rattle.rules.specs.Digits.{from_ascii}
 use Rattle.name.proofs.values.Given as goal
 
-abbrev pub invariant-loop-i : goal.invariant-loop-i
-invariant-loop-i l = take l.i l.to ≡ from_ascii (take l.i l.ascii)
+abbrev pub invariant-loop-x : goal.invariant-loop-x
+invariant-loop-x l = l.to ≡ from_ascii (take l.x-index l.ascii) ++ drop l.x-index l.ascii

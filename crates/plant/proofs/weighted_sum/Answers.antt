@@ -1,20 +1,31 @@
-use Prim.Native.Nat.{◌%◌}
+use mathlib.Core.Path.{ap}
 use native.Mathlib.Omega.{arith}
-use Rattle.std.proofs.lemmas.List.{at_drop_all}
-use Rattle.rules.specs.Plant.{weighted_sum}
-use Rattle.plant.proofs.Scan.{weighted-step, weight_is, weighted_bound}
+use lib.ListN.{length}
+use borrow.Author.Rules.{rules}
+use Rattle.std.proofs.lemmas.Slice.Zip.{either_empty_from_Zip}
+use Rattle.plant.proofs.Scan.{weigh-next, weights-next, weigh-end, weighted-most}
 use Rattle.plant.proofs.weighted_sum.Goals as goal
 
-pub loop-i-preserved : goal.loop-i-preserved
-loop-i-preserved c =
-    let i = c.loop-i.i in
-    let b = weighted_bound _ (i % 5) (c.type_inv.s i).fits in
-    let h = weighted-step c.args.s.now i c.loop-i-test.true in
-    rw (weight_is i (omega arith)) (omega arith, omega arith)
+pub overflow_add-sum : goal.overflow_add-sum
+overflow_add-sum c =
+    let l = c.loop-x in
+    let step = c.in-Some.ensures.steps in
+    let shorter = ap length step.0 in
+    let small = weighted-most c.in-Some.field-0-0.now c.in-Some.field-0-1.now (search rules) (weights-next step.0 step.1 l.invariant.0).0 in
+    omega (arith, small, l.invariant.1)
+
+pub loop-x-preserved : goal.loop-x-preserved
+loop-x-preserved c =
+    let l = c.loop-x in
+    let step = c.in-Some.ensures.steps in
+    let shorter = ap length step.0 in
+    let nine = weights-next step.0 step.1 l.invariant.0 in
+    let small = weighted-most c.in-Some.field-0-0.now c.in-Some.field-0-1.now (search rules) nine.0 in
+    let next = weigh-next step.0 step.1 in
+    (nine.1, omega (arith, small, l.invariant.1), omega (arith, next, l.invariant.2))
 
 pub returns : goal.returns
-unfolding weighted_sum
 returns c =
-    let i = c.loop-i.i in
-    let h = at_drop_all (weighted_sum i) c.args.s.now i c.loop-i-test.false in
-    omega arith
+    let l = c.loop-x in
+    let none = weigh-end _ _ (either_empty_from_Zip l.x-iterator c.next.new.self _ c.in-None.is c.next.ensures.steps) in
+    omega (arith, none, l.invariant.2)

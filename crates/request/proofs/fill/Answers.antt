@@ -4,5 +4,5 @@ use Rattle.request.proofs.fill.Goals as goal
 
 pub returns : goal.returns
 returns c =
-    written c.requires
-    c.put.ensures c.put_digits.ensures c.put-2.ensures c.put-3.ensures c.put-4.ensures c.put-5.ensures
+    let ascii = rw c.to_ascii.ensures at c.put-2.ensures in
+    written c.requires c.put.ensures ascii c.put-3.ensures c.put-4.ensures c.put-5.ensures c.put-6.ensures

@@ -3,20 +3,8 @@ use mathlib.Core.Path.{◌≡◌, ◌∙◌, refl, sym}
 use native.Mathlib.Omega.{arith}
 use lib.ListN.{length, get_or}
 use Rattle.rules.specs.Turned.{rearranged}
-use Rattle.turned.proofs.Places.{place-first, place-below, place-step, length-rearranged, rearranged-at, put_next, put_all}
+use Rattle.turned.proofs.Places.{place-step, length-rearranged, rearranged-at, put_next, put_all}
 use Rattle.turned.proofs.rearrange.Goals as goal
-
-pub loop-x-init : goal.loop-x-init
-loop-x-init c =
-    let a = c.args in
-    record { from_here = place-first (length a.from.now / a.row) a.row; so_far = refl }
-
-pub bounds-from-place : goal.bounds-from-place
-bounds-from-place c =
-    let rows = length c.args.from.now / c.args.row in
-    let whole = c.requires.whole in
-    let h : c.loop-x.x-index < rows * c.args.row = omega arith in
-    omega (arith, place-below rows c.args.row c.loop-x.x-index h, c.loop-x.invariant.from_here)
 
 pub loop-x-preserved : goal.loop-x-preserved
 loop-x-preserved c =

@@ -3,13 +3,8 @@ use mathlib.Core.Path.{◌≡◌, ◌∙◌, sym}
 use mathlib.Core.Bool.{true}
 use lib.ListN.{length}
 use Rattle.turned.specs.Rows.{is_month}
-use Rattle.turned.proofs.Months.{day_rows, turned-month, turned_none}
+use Rattle.turned.proofs.Months.{turned-month, turned_none}
 use Rattle.turned.proofs.turn.Goals as goal
-
-pub rearrange-requires : goal.rearrange-requires
-rearrange-requires c =
-    let month : is_month (length c.args.from.now) (length c.args.to.now) ≡ true = sym c.is_month.ensures ∙ c.if-is_month.true in
-    day_rows _ _ month
 
 pub returns-then-is_month : goal.returns-then-is_month
 returns-then-is_month c =

@@ -1,24 +1,21 @@
--- `write_months` meets its contract.
+-- `write_months` meets its contract: the length of its body.
 use Prim.Native.Nat.{◌-◌}
-use Rattle.rules.specs.Writer.{Fields}
-use Rattle.digits.proofs.Placing.{no_room, with-room}
+use native.Mathlib.Omega.{arith}
 use Rattle.plan.specs.Fields.{given}
-use Rattle.writer.specs.Bodies.{months_body}
-use Rattle.writer.proofs.Outputs.{months-placed, months-body-length}
+use Rattle.writer.proofs.Outputs.{months_long, months_put, placed_front}
 use Rattle.writer.proofs.write_months.Goals as goal
 
-pub returns-then-out-length : goal.returns-then-out-length
-returns-then-out-length c =
-    let g = c.args in
-    let w : Fields = given g.fields in
-    let both = no_room g.out.now (months_body w (g.end - g.first) g.first) (months-body-length c.requires) c.if-out-length.true in
-    record { answer = both.0; buffer = both.1 }
+pub returns-then-out-length-clause-answer : goal.returns-then-out-length-clause-answer
+returns-then-out-length-clause-answer c = grind (arith, months_long (given c.args.fields) _ _ c.requires)
 
-pub returns : goal.returns
-returns c =
-    let g = c.args in
-    let w : Fields = given g.fields in
-    let k = g.end - g.first in
-    let placed = months-placed g.out.now w k g.first c.put_number.ensures c.put_months.ensures in
-    let both = with-room g.out.now (months_body w k g.first) (months-body-length c.requires) c.if-out-length.false placed in
-    record { answer = both.0; buffer = both.1 }
+pub returns-then-out-length-clause-buffer : goal.returns-then-out-length-clause-buffer
+returns-then-out-length-clause-buffer c = grind (arith, months_long (given c.args.fields) _ _ c.requires)
+
+pub returns-clause-answer : goal.returns-clause-answer
+returns-clause-answer c = grind (arith, months_long (given c.args.fields) _ _ c.requires)
+
+pub returns-clause-buffer : goal.returns-clause-buffer
+returns-clause-buffer c =
+    let w = given c.args.fields in
+    let m = c.args.months in
+    grind (arith, months_long w _ _ c.requires, months_put c.args.out.now w (m.end - m.start) m.start, placed_front)

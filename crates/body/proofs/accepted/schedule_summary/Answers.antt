@@ -10,17 +10,14 @@ overflow_sub-rates c = (rates-room _ _ _ c.requires.scheduled c.requires.formed 
 pub overflow_cast-result : goal.overflow_cast-result
 overflow_cast-result c = omega (arith, (rates-room _ _ _ c.requires.scheduled c.requires.formed c.requires.dated c.fixed_bytes.ensures.exact).1)
 
-pub start_at-requires : goal.start_at-requires
-start_at-requires c = omega (arith, (whole-start _ _ c.requires.formed).room)
+pub slice_bounds-start_slot-end : goal.slice_bounds-start_slot-end
+slice_bounds-start_slot-end c = omega (arith, (whole-start _ _ c.requires.formed).room)
 
-pub flag_at-requires : goal.flag_at-requires
-flag_at-requires c = whole-start _ _ c.requires.formed
-
-pub access_at-requires : goal.access_at-requires
-access_at-requires c = whole-start _ _ c.requires.formed
+pub update_at-requires : goal.update_at-requires
+update_at-requires c = whole-start _ _ c.requires.formed
 
 pub returns : goal.returns
 returns c =
     let pre = c.requires in
-    summary_is _ _ _ pre.scheduled pre.formed pre.dated _ _ _ _ _ c.fixed_bytes.ensures.exact c.record_count.ensures
-    c.start_at.ensures c.flag_at.ensures c.access_at.ensures
+    summary_is _ _ _ pre.scheduled pre.formed pre.dated _ _ _ _ c.fixed_bytes.ensures.exact c.record_count.ensures
+    c.start_slot.ensures c.update_at.ensures

@@ -1,16 +1,15 @@
--- `date_stage::dates_hold` meets its contract, format by format.
-use Rattle.form.proofs.Walk.{whole-start}
-use Rattle.body.proofs.Starts.{dates-201, dates-202, dates-203}
+-- `date_stage::dates_hold` meets its contract for 203: its record's dates keep the rules where they are digits.
+use mathlib.Core.Path.{◌∙◌}
+use borrow.Author.Rules.{rules}
+use borrow.Author.Tests.{tests}
+use Rattle.std.proofs.lemmas.Iterator.Search.{all_from_yields_List}
+use Rattle.form.proofs.Turns.{yields}
+use Rattle.body.specs.Records.{update_fits}
+use Rattle.body.proofs.Fields.{dates-203}
 use Rattle.body.proofs.date_stage.dates_hold.Goals as goal
 
-pub update_dates_hold-requires : goal.update_dates_hold-requires
-update_dates_hold-requires c = rw c.in-F203.is at (whole-start _ _ c.requires)
-
-pub returns-in-F201 : goal.returns-in-F201
-returns-in-F201 c = dates-201 _ _ _ c.in-F201.is c.rising_months_hold.ensures
-
-pub returns-in-F202 : goal.returns-in-F202
-returns-in-F202 c = dates-202 _ _ _ c.in-F202.is _ c.segment_month.ensures.exact c.months_hold.ensures
-
 pub returns-in-F203 : goal.returns-in-F203
-returns-in-F203 c = dates-203 _ _ _ c.in-F203.is c.update_dates_hold.ensures
+returns-in-F203 c =
+    let w = c.args.records in
+    all_from_yields_List update_fits _ _ _ c.all.ensures.ran (yields w) (λ x b q h. search (rules, tests))
+    ∙ dates-203 w c.requires.stand c.args.segment c.in-F203.is

@@ -1,46 +1,24 @@
-use Prim.Native.Nat.{suc, ◌+◌, ◌-◌}
-use mathlib.Core.Path.{◌≡◌, ◌∙◌, sym}
+-- `date_stage::months_hold` meets its contract: months stand beside the records.
+use Prim.Native.Nat.{◌-◌}
+use mathlib.Core.Path.{◌∙◌, refl}
 use native.Mathlib.Omega.{arith}
-use Rattle.rules.specs.Body.{size_of}
-use Rattle.form.specs.Walk.{Whole}
-use Rattle.form.proofs.Walk.{whole-first, within, rates-here, size-here, shaped-rest}
-use Rattle.body.proofs.Starts.{months-end, months-step, months-stop}
+use borrow.Author.Rules.{rules}
+use borrow.Author.Tests.{tests}
+use Rattle.std.proofs.lemmas.Iterator.{YieldsList-from_zip, YieldsList-from_range}
+use Rattle.std.proofs.lemmas.Iterator.Consumers.{YieldsList-at}
+use Rattle.std.proofs.lemmas.Iterator.Search.{all_from_yields_List}
+use Rattle.layout.specs.Walk.{record_of}
+use Rattle.form.proofs.Turns.{yields}
+use Rattle.body.specs.Records.{month_fits}
+use Rattle.body.proofs.Fields.{months-left}
 use Rattle.body.proofs.date_stage.months_hold.Goals as goal
-use Rattle.body.proofs.date_stage.months_hold.Goals.{After-rate_count-rates}
-
--- what is known of the record at the front
-stood : (c : After-rate_count-rates) → Whole c.args.format c.loop-month.t.now
-stood c = whole-first _ _ _ (omega (arith, c.loop-month-test.true)) c.loop-month.invariant.0
-
-size : (c : After-rate_count-rates) → 53 + c.rate_count-rates.result + c.tail_digits-tail.result ≡ size_of c.args.format c.loop-month.t.now
-size c = size-here _ _ c.rate_count-rates.ensures.exact c.tail_digits-tail.ensures.exact (stood c)
-
-pub whole_month-requires : goal.whole_month-requires
-whole_month-requires c = (stood c, rates-here _ _ c.rate_count-rates.ensures.exact (stood c))
-
-pub returns-then-not-whole_month : goal.returns-then-not-whole_month
-returns-then-not-whole_month c =
-    sym (c.loop-month.invariant.1 ∙ months-stop _ _ _ _ (omega (arith, c.loop-month-test.true)) (sym c.if-not-whole_month.ensures))
-
-pub slice_bounds-t-count : goal.slice_bounds-t-count
-slice_bounds-t-count c =
-    let e = (goal.at.slice_bounds-t-count c).After-rate_count-rates in
-    within _ _ (stood e) (size e)
-
-pub slice_bounds-t-start : goal.slice_bounds-t-start
-slice_bounds-t-start c =
-    let e = (goal.at.slice_bounds-t-start c).After-rate_count-rates in
-    within _ _ (stood e) (size e)
-
-pub loop-month-preserved : goal.loop-month-preserved
-loop-month-preserved c =
-    let e = (goal.at.loop-month-preserved c).After-rate_count-rates in
-    let l = c.loop-month in
-    let end = c.args.first + c.record_count.result in
-    let one : end - l.month ≡ suc (end - (l.month + 1)) = omega (arith, c.loop-month-test.true) in (
-      shaped-rest _ _ _ one (size e) l.invariant.0,
-      l.invariant.1 ∙ months-step _ _ _ _ one (size e) (sym c.if-not-whole_month.ensures),
-    )
 
 pub returns : goal.returns
-returns c = sym (c.loop-month.invariant.1 ∙ months-end _ _ _ _ (omega (arith, c.loop-month-test.false)))
+returns c =
+    let w = c.args.records in
+    let m = c.args.first in
+    let months = YieldsList-at c.zip.ensures.first (YieldsList-from_range m 65535 (65535 - m) refl refl) in
+    let records = YieldsList-at c.zip.ensures.second (yields w) in
+    all_from_yields_List (λ p. month_fits p.0 p.1) c.all.new.self _ _ c.all.ensures.ran
+    (YieldsList-from_zip {v = λ x. x} {w = record_of} months records) (λ x b q h. search (rules, tests))
+    ∙ months-left w c.requires.0.stand (65535 - m) m (omega (arith, c.requires.0.few, c.requires.1))

@@ -1,13 +1,21 @@
 -- `dates::is_update` meets its contract, by the answers of the calendar for start and next access.
-use mathlib.Core.Path.{◌∙◌, sym}
-use Rattle.layout.proofs.Starts.{update-no-start, update-no-next, update-is}
+use mathlib.Core.Path.{◌≡◌, ◌∙◌, refl, sym}
+use borrow.Author.Rules.{rules}
+use Rattle.rules.specs.Calendar.{start_slot}
+use Rattle.rules.specs.File.{in_time}
+use Rattle.layout.proofs.Starts.{moment-is, time-is, update-is}
 use Rattle.layout.proofs.dates.is_update.Goals as goal
+use Rattle.layout.proofs.dates.is_update.Goals.{After-is_some_and}
 
-pub returns-in_default : goal.returns-in_default
-returns-in_default c = update-no-start _ _ _ (sym c.in_default.is ∙ c.start_slot.ensures)
+timed : (c : After-is_some_and) → c.is_some_and.result ≡ in_time c.args.rates (start_slot c.args.start.now)
+timed c = time-is _ _ c.start_slot.ensures c.is_some_and.ensures (λ k q. search rules)
 
-pub returns-in_default-read_moment : goal.returns-in_default-read_moment
-returns-in_default-read_moment c = update-no-next _ _ _ (sym c.in_default-read_moment.is ∙ c.read_moment.ensures)
+pub returns-then-is_some_and : goal.returns-then-is_some_and
+returns-then-is_some_and c =
+    let t = timed (goal.at.returns-then-is_some_and c).After-is_some_and in
+    update-is _ _ _ (sym c.if-is_some_and.true ∙ t) (c.is_some.ensures ∙ moment-is _ c.read_moment.ensures)
 
-pub returns : goal.returns
-returns c = update-is _ _ _ _ _ (sym c.in-Some.is ∙ c.start_slot.ensures) (sym c.in-Some-read_moment.is ∙ c.read_moment.ensures)
+pub returns-else-is_some_and : goal.returns-else-is_some_and
+returns-else-is_some_and c =
+    let t = timed (goal.at.returns-else-is_some_and c).After-is_some_and in
+    c.if-is_some_and.false ∙ update-is _ _ c.args.next.now (sym c.if-is_some_and.false ∙ t) refl

@@ -1,10 +1,7 @@
 -- `dates::is_whole_month` meets its contract, by the two answers of the calendar for the start.
-use mathlib.Core.Path.{◌∙◌, sym}
-use Rattle.layout.proofs.Starts.{no-month, is-month}
+use borrow.Author.Rules.{rules}
+use Rattle.layout.proofs.Starts.{month-is}
 use Rattle.layout.proofs.dates.is_whole_month.Goals as goal
 
-pub returns-in_default : goal.returns-in_default
-returns-in_default c = no-month _ _ _ (sym c.in_default.is ∙ c.month_begun.ensures)
-
 pub returns : goal.returns
-returns c = is-month _ _ _ _ _ (sym c.in-Some.is ∙ c.month_begun.ensures) c.days_of_month.ensures
+returns c = month-is _ _ _ c.month_begun.ensures c.is_some_and.ensures (λ k q. search rules)

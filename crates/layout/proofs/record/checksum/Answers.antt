@@ -1,8 +1,9 @@
 -- `record::checksum` meets its contract.
-use mathlib.Core.Path.{◌∙◌, refl}
-use Rattle.layout.specs.Records.{checksum_for}
+use mathlib.Core.Path.{◌∙◌}
+use Rattle.layout.proofs.Counts.{checksum-read}
 use Rattle.layout.proofs.record.checksum.Goals as goal
 
 pub returns : goal.returns
-unfolding checksum_for
-returns c = c.modulo.ensures ∙ rw (c.sum.ensures, c.pair.ensures.exact, c.pair-2.ensures.exact) refl
+returns c =
+    c.unwrap_or.ensures
+    ∙ checksum-read c.args.start.now c.args.rates.now c.checked_rem.result c.sum-sum.ensures c.pair.ensures.exact c.pair-2.ensures.exact c.checked_rem.ensures

@@ -1,24 +1,20 @@
-use mathlib.Core.Path.{sym, ◌∙◌}
-use native.Mathlib.Omega.{arith}
-use borrow.Author.Tests.{lt-ltb}
+use mathlib.Core.Path.{◌≡◌, ◌∙◌}
+use mathlib.Core.Bool.{true, false}
+use borrow.Author.Tests.{tests}
+use lib.ListN.{length}
+use Rattle.std.proofs.Common.{rules}
+use Rattle.std.proofs.lemmas.Iterator.{YieldsList-from_slice, first_from_find}
+use Rattle.std.proofs.lemmas.Iterator.Consumers.{YieldsList-from_enumerate}
 use Rattle.rules.specs.Store.{block_count}
-use Rattle.pool.specs.Blocks.{find_of, holds}
-use Rattle.pool.proofs.BelowLaws.{first-is}
+use Rattle.pool.proofs.FindLaws.{has, first-block}
 use Rattle.pool.proofs.Pool.find.Goals as goal
 
-pub returns-then-holds_month : goal.returns-then-holds_month
-unfolding find_of
-returns-then-holds_month c =
-    let l = c.loop-b in
-    let a = c.args in
-    let found = sym c.holds_month.ensures ∙ c.if-holds_month.true in
-    let first = first-is block_count (holds a.self a.month) l.b (omega arith) l.invariant (λ _. found) in
-    rw (first, lt-ltb _ _ c.loop-b-test.true)
-
 pub returns : goal.returns
-unfolding find_of
 returns c =
-    let l = c.loop-b in
-    let a = c.args in
-    rw
-    (first-is block_count (holds a.self a.month) block_count (omega arith) (λ k m. l.invariant k (omega arith)) (λ m. absurd (omega arith)))
+    let p = c.args.self in
+    let m = c.args.month in
+    let long : length p.months ≡ block_count = search rules in
+    search rules ∙ first-block p m long (λ x. (x.0, x.1.now)) c.find.result
+    (first_from_find _ _ _ (λ q. has p m q ≡ true) (λ q. has p m q ≡ false) c.find.ensures.ran
+    (YieldsList-from_enumerate {v = λ y. y.now} (YieldsList-from_slice p.months (search rules)) (search rules))
+    (λ x q k. search (rules, tests)) (λ x q k. search (rules, tests)))

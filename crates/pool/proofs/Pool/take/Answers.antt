@@ -2,7 +2,7 @@ use mathlib.Core.Path.{◌≡◌}
 use mathlib.Core.Bool.{not, ◌&&◌}
 use Prim.Native.Nat.{◌-◌, ◌*◌, ◌^◌, ◌%◌}
 use native.Mathlib.Omega.{arith}
-use lib.Count.{count_trailing_zeros, trailing_le}
+use lib.Count.{count_trailing_zeros}
 use lib.Dec.{eqb}
 use borrow.Author.Rules.{rules}
 use borrow.Author.Tests.{lt-ltb, le-ltb}
@@ -11,9 +11,6 @@ use Rattle.pool.specs.Below.{number}
 use Rattle.pool.specs.Blocks.{is_free, take_of, free_width}
 use Rattle.pool.proofs.BelowLaws.{trailing-first, clear-lowest}
 use Rattle.pool.proofs.Pool.take.Goals as goal
-
-pub overflow_cast-b : goal.overflow_cast-b
-overflow_cast-b c = omega (arith, trailing_le free_width c.args.self.free)
 
 pub returns-then-b-ge-BLOCK_COUNT : goal.returns-then-b-ge-BLOCK_COUNT
 unfolding take_of

@@ -1,29 +1,15 @@
 -- `response::edges::closed` meets its contract.
-use Prim.Native.Nat.{◌+◌}
-use mathlib.Core.Path.{◌∙◌, ap, ap₂}
-use mathlib.Core.Bool.{Bool, ◌&&◌}
-use native.Mathlib.Omega.{arith}
-use lib.ListN.{length}
-use Rattle.laws.proofs.Bytes.{part-rest}
-use Rattle.rules.specs.Response.{begins, line_end}
-use Rattle.response.proofs.Ends.{end_short, end-long, end-other}
+use mathlib.Core.Path.{◌∙◌, sym, ap, ap₂}
+use mathlib.Core.Bool.{Bool, ◌||◌}
+use Rattle.response.specs.Lent.{lent}
+use Rattle.response.proofs.Ends.{ends, ends-by}
 use Rattle.response.proofs.edges.closed.Goals as goal
 
-pub returns-then-s-n : goal.returns-then-s-n
-returns-then-s-n c =
-    let s = c.args.s.now in
-    let b = c.args.b.now in
-    c.closing_begins.ensures ∙ end_short b s c.if-s-n.true
+pub returns-in-Some : goal.returns-in-Some
+returns-in-Some c =
+    ap₂ (λ (x y : Bool). x || y) c.is_empty.ensures c.same.ensures
+    ∙ ap ends (sym (ap lent c.in-Some.is) ∙ c.past_closing.ensures)
+    ∙ ends-by c.args.b.now c.args.s.now
 
-pub returns-then-s-n-2 : goal.returns-then-s-n-2
-returns-then-s-n-2 c =
-    let s = c.args.s.now in
-    let b = c.args.b.now in
-    end-other b s c.if-s-n.false (λ e. c.if-s-n-2.true (omega (arith, e)))
-
-pub returns : goal.returns
-returns c =
-    let s = c.args.s.now in
-    let b = c.args.b.now in
-    ap₂ (λ (x y : Bool). x && y) c.closing_begins-2.ensures (c.begins.ensures ∙ ap (begins line_end) (part-rest s (length b + 6)))
-    ∙ end-long b s (omega (arith, c.if-s-n-2.false))
+pub returns-in-None : goal.returns-in-None
+returns-in-None c = ap ends (sym (ap lent c.in-None.is) ∙ c.past_closing.ensures) ∙ ends-by c.args.b.now c.args.s.now

@@ -1,27 +1,23 @@
--- `response::edges::opened` meets its contract.
-use Prim.Native.Nat.{◌+◌}
-use mathlib.Core.Path.{◌∙◌, sym, ap, ap₂}
-use mathlib.Core.Bool.{Bool, ◌&&◌}
-use native.Mathlib.Omega.{arith}
-use lib.ListN.{length}
-use Rattle.laws.proofs.Bytes.{part-rest}
-use Rattle.rules.specs.Response.{begins, line_end, opening}
-use Rattle.about_responses.proofs.Begins.{too_short}
-use Rattle.response.proofs.Ends.{opened-parts, opening-length}
+-- `response::edges::opened` meets its contract: two hyphens, the boundary, the line's end.
+use mathlib.Core.Path.{◌∙◌, sym}
+use mathlib.Core.List.{◌++◌}
+use Rattle.rules.specs.Response.{hyphens, line_end}
+use Rattle.response.proofs.Stripping.{strip-none, strip-on}
 use Rattle.response.proofs.edges.opened.Goals as goal
 
-pub returns-then-s-n : goal.returns-then-s-n
-returns-then-s-n c =
-    let s = c.args.s.now in
+pub returns-in_err-edge : goal.returns-in_err-edge
+returns-in_err-edge c =
     let b = c.args.b.now in
-    sym (too_short (opening b) s (omega (arith, c.if-s-n.true, opening-length b)))
+    rw c.from_residual.ensures (strip-none hyphens (b ++ line_end) c.args.s.now _ c.strip.ensures c.in_err-edge.was)
+
+pub returns-in_err-strip : goal.returns-in_err-strip
+returns-in_err-strip c =
+    let b = c.args.b.now in
+    let edge = strip-on hyphens (b ++ line_end) c.args.s.now _ c.strip.ensures _ c.in_ok-edge.was in
+    rw c.from_residual-in_err-strip.ensures (strip-none b line_end _ _ c.strip-2.ensures c.in_err-strip.was ∙ sym edge)
 
 pub returns : goal.returns
 returns c =
-    let s = c.args.s.now in
     let b = c.args.b.now in
-    ap₂ (λ (x y : Bool). x && y)
-    (ap₂ (λ (x y : Bool). x && y) c.begins.ensures
-    (c.begins-2.ensures ∙ ap (begins b) (part-rest s 2)))
-    (c.begins-3.ensures ∙ ap (begins line_end) (part-rest s (2 + length b)))
-    ∙ opened-parts b s
+    let edge = strip-on hyphens (b ++ line_end) c.args.s.now _ c.strip.ensures _ c.in_ok-edge.was in
+    c.strip-3.ensures ∙ sym (edge ∙ strip-on b line_end _ _ c.strip-2.ensures _ c.in_ok-strip.was)

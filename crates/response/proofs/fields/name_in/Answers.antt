@@ -1,34 +1,47 @@
-use mathlib.Core.Path.{◌≡◌, ◌∙◌, refl, sym, ap}
+-- `response::fields::name_in` meets its contract: the search finds the first place that begins so.
+use Rattle.std.proofs.Common.{rules, tests}
+use Rattle.std.proofs.lemmas.Iterator.{first_from_Range}
+use Prim.Native.Nat.{ℕ, ◌+◌}
+use mathlib.Core.Path.{◌∙◌, sym, ap, subst}
+use mathlib.Core.List.{List}
+use lib.ListN.{length}
+use Rattle.std.specs.Prelude.{Option, Some}
+use Rattle.laws.proofs.Bytes.{part-rest}
 use mathlib.Core.Bool.{true, false}
 use native.Mathlib.Omega.{arith}
-use lib.ListN.{drop, length-drop}
-use Rattle.laws.proofs.Bytes.{part-rest}
-use Rattle.rules.specs.Response.{begins}
-use Rattle.about_responses.proofs.Begins.{begins-fits}
-use Rattle.response.proofs.Scans.{behind_more, behind-found, behind-over}
+use Rattle.response.proofs.Scans.{Begun, Sought, name_sought}
+use Rattle.response.proofs.fields.name_in.Goals.{After-find}
 use Rattle.response.proofs.fields.name_in.Goals as goal
 
-pub loop-i-init : goal.loop-i-init
-loop-i-init c = refl
-
-pub returns-then-begins : goal.returns-then-begins
-returns-then-begins c =
+sought : (c : After-find) → Sought c.args.p.now c.args.s.now c.find.result
+sought c =
     let s = c.args.s.now in
     let p = c.args.p.now in
-    let i = c.loop-i.i in
-    let begun : begins p (drop i s) ≡ true = ap (begins p) (sym (part-rest s i)) ∙ sym c.begins.ensures ∙ c.if-begins.true in
-    record {
-      found = c.loop-i.invariant ∙ behind-found p s i c.loop-i-test.true begun;
-      within = omega (arith, begins-fits p (drop i s) begun, length-drop i s);
-    }
+    name_sought p s c.find.result
+    (first_from_Range _ _ _ _ (λ i. Begun p s i true) (λ i. Begun p s i false) c.find.ensures.ran (λ x q k. search (rules, tests)) (λ x q k. search (rules, tests)))
 
-pub loop-i-preserved : goal.loop-i-preserved
-loop-i-preserved c =
-    let s = c.args.s.now in
-    let p = c.args.p.now in
-    let i = c.loop-i.i in
-    let other : begins p (drop i s) ≡ false = ap (begins p) (sym (part-rest s i)) ∙ sym c.begins.ensures ∙ c.if-begins.false in
-    c.loop-i.invariant ∙ behind_more p s i c.loop-i-test.true other
+pub returns-in_err-at : goal.returns-in_err-at
+returns-in_err-at c =
+    rw c.from_residual.ensures (sym (subst (Sought c.args.p.now c.args.s.now) c.in_err-at.was (sought (goal.at.returns-in_err-at c).After-find)))
+
+pub overflow_add-result : goal.overflow_add-result
+overflow_add-result c =
+    let name = subst (Sought c.args.p.now c.args.s.now) c.in_ok-at.was (sought (goal.at.overflow_add-result c).After-find) in
+    omega (arith, name.within)
+
+pub slice_bounds-result-count : goal.slice_bounds-result-count
+slice_bounds-result-count c =
+    let name = subst (Sought c.args.p.now c.args.s.now) c.in_ok-at.was (sought (goal.at.slice_bounds-result-count c).After-find) in
+    name.within
+
+pub slice_bounds-result-start : goal.slice_bounds-result-start
+slice_bounds-result-start c =
+    let name = subst (Sought c.args.p.now c.args.s.now) c.in_ok-at.was (sought (goal.at.slice_bounds-result-start c).After-find) in
+    name.within
 
 pub returns : goal.returns
-returns c = c.loop-i.invariant ∙ behind-over c.args.p.now c.args.s.now c.loop-i.i c.loop-i-test.false
+returns c =
+    let p = c.args.p.now in
+    let s = c.args.s.now in
+    let name = subst (Sought p s) c.in_ok-at.was (sought (goal.at.returns c).After-find) in
+    ap {B = Option (List ℕ)} Some (part-rest s (c.in_ok-at.at + length p)) ∙ sym name.found

@@ -1,37 +1,35 @@
-use mathlib.Core.Path.{sym, subst}
+use mathlib.Core.Path.{sym, ap, subst, ◌∙◌}
 use native.Mathlib.Omega.{arith}
-use Rattle.std.specs.Prelude.{ℕ, Option, ◌<◌}
-use Rattle.response.specs.Found.{Ended, LineRead}
+use borrow.Author.Tests.{eqb-true, eqb-false}
+use lib.ListN.{length}
+use Rattle.std.specs.Prelude.{Option, ◌≢◌}
+use Rattle.response.specs.Lent.{both_lent}
 use Rattle.response.specs.Marks.{HeadersRead}
 use Rattle.response.specs.declared.headers.Headers.{Headers}
-use Rattle.response.proofs.Walk.{walk_starts, walk_on, walk_cut, walk_over}
+use Rattle.response.proofs.Walk.{line-is, line-shorter, walk_starts, walk_on, walk_cut, walk_over}
 use Rattle.response.proofs.headers.read.Goals as goal
 
-pub loop-end-init : goal.loop-end-init
-loop-end-init c = let a = c.args in (c.requires, walk_starts a.s.now a.from)
+pub loop-line-init : goal.loop-line-init
+loop-line-init c = walk_starts c.args.s.now
 
-pub returns-in_err-end : goal.returns-in_err-end
-returns-in_err-end c =
-    let a = c.args in
-    let l = c.loop-end in
-    rw c.from_residual.ensures (walk_cut a.s.now a.from l.place l.size l.name l.invariant.1
-    (subst (λ (h : Option ℕ). LineRead a.s.now l.place h) c.in_err-end.was c.line_end.ensures))
+pub returns-then-is_empty : goal.returns-then-is_empty
+returns-then-is_empty c =
+    let l = c.loop-line in
+    let line = line-is l.t.now _ c.split_line.ensures _ _ c.in-Some.is in
+    subst (λ (h : Option Headers). HeadersRead c.args.s.now h) (sym c.both.ensures)
+    (walk_over c.args.s.now l.t.now l.size l.name l.invariant _ c.in-Some.rest line (eqb-true _ _ (sym c.is_empty.ensures ∙ c.if-is_empty.true)))
 
-pub returns-then-end-place : goal.returns-then-end-place
-returns-then-end-place c =
-    let a = c.args in
-    let l = c.loop-end in
-    let ended : Ended a.s.now l.place c.in_ok-end.end = subst (λ (h : Option ℕ). LineRead a.s.now l.place h) c.in_ok-end.was c.line_end.ensures in
-    subst (λ (h : Option Headers). HeadersRead a.s.now a.from h) (sym c.both.ensures)
-    (walk_over a.s.now a.from l.place l.size l.name l.invariant.1 _ ended c.if-end-place.true)
+pub loop-line-smaller : goal.loop-line-smaller
+loop-line-smaller c = line-shorter _ _ _ (line-is c.loop-line.t.now _ c.split_line.ensures _ _ c.in-Some.is)
 
-pub loop-end-preserved : goal.loop-end-preserved
-loop-end-preserved c =
-    let a = c.args in
-    let l = c.loop-end in
-    let e = c.in_ok-end.end in
-    let ended : Ended a.s.now l.place e = subst (λ (h : Option ℕ). LineRead a.s.now l.place h) c.in_ok-end.was c.line_end.ensures in
-    let more : l.place < e = omega (arith, c.if-end-place.false, ended.later) in (
-      ended.within,
-      walk_on a.s.now a.from l.place l.size l.name l.invariant.1 e ended more c.marked-size.ensures c.marked-name.ensures,
-    )
+pub loop-line-preserved : goal.loop-line-preserved
+loop-line-preserved c =
+    let l = c.loop-line in
+    let line = line-is l.t.now _ c.split_line.ensures _ _ c.in-Some.is in
+    rw (c.marked-size.ensures, c.marked-name.ensures)
+    (walk_on c.args.s.now l.t.now l.size l.name l.invariant c.in-Some.line _ line (let some : length c.in-Some.line.now ≢ 0 = eqb-false _ _ (sym c.is_empty.ensures ∙ c.if-is_empty.false) in omega (arith, some)))
+
+pub returns : goal.returns
+returns c =
+    let l = c.loop-line in
+    walk_cut c.args.s.now l.t.now l.size l.name l.invariant (sym c.split_line.ensures ∙ ap both_lent c.in_default.is)

@@ -1,11 +1,10 @@
--- `response::headers::read` meets its contract: the lines before `place` are walked, and the marks say what they say.
-use Prim.Native.Nat.{◌-◌, ◌≤◌}
+-- `response::headers::read` meets its contract: the lines before t are walked, and the marks say what they say.
 use lib.ListN.{length}
 use Rattle.response.specs.Marks.{Walked}
 use Rattle.response.proofs.headers.read.Given as goal
 
-abbrev pub invariant-loop-end : goal.invariant-loop-end
-invariant-loop-end l = (l.place ≤ length l.s) × Walked l.s l.from l.place l.size l.name
+abbrev pub invariant-loop-line : goal.invariant-loop-line
+invariant-loop-line l = Walked l.s l.t l.size l.name
 
-abbrev pub decreases-loop-end : goal.decreases-loop-end
-decreases-loop-end l = length l.s - l.place
+abbrev pub decreases-loop-line : goal.decreases-loop-line
+decreases-loop-line l = length l.t

@@ -1,17 +1,14 @@
 -- `response::lines::begins` meets its contract.
-use mathlib.Core.Path.{sym}
-use lib.ListN.{length}
-use lib.Seq.{length-take-le}
+use mathlib.Core.Path.{◌∙◌}
+use lib.ListN.{length, take}
+use Rattle.std.proofs.lemmas.Cmp.{nat_list_eq_equiv}
+use Rattle.laws.proofs.Bytes.{pointwise-same}
 use Rattle.rules.specs.Response.{begins}
-use Rattle.about_responses.proofs.Begins.{too_short}
 use Rattle.response.proofs.lines.begins.Goals as goal
-
-pub returns-then-s-n : goal.returns-then-s-n
-returns-then-s-n c = let a = c.args in sym (too_short a.p.now a.s.now c.if-s-n.true)
-
-pub slice_bounds-same-end : goal.slice_bounds-same-end
-slice_bounds-same-end c = let a = c.args in sym (length-take-le (length a.p.now) a.s.now c.if-s-n.false)
 
 pub returns : goal.returns
 unfolding begins
-returns c = c.same.ensures
+returns c =
+    let p = c.args.p.now in
+    let front = take (length p) c.args.s.now in
+    c.starts_with.ensures.value ∙ nat_list_eq_equiv.symm p front ∙ pointwise-same front p

@@ -13,14 +13,14 @@ use Rattle.schedule.proofs.putting.lay_piece.Goals as goal
 
 pub returns-in-Some : goal.returns-in-Some
 returns-in-Some c =
-    let below : c.in-Some.b < block_count = c.requires.2 _ c.in-Some.is in
+    let below : c.in-Some.b < block_count = c.requires.1 _ c.in-Some.is in
     let a = c.args in
-    let rates = a.rates.now in
+    let rates = a.piece.rates.now in
     let store = a.store.now in
     let given = c.in-Some in
-    let at = given.b * block_length + a.from in
+    let at = given.b * block_length + a.piece.from in
     let copied = c.copy_from_slice.ensures.after in
-    let room : at + length rates ≤ length store = omega (arith, below, c.requires.0, c.requires.1) in
+    let room : at + length rates ≤ length store = omega (arith, below, c.args.piece.fits c.requires.0) in
     put-part store c.copy_from_slice.new.self at (length rates) (ap length copied) room
     ∙ ap (sets store at) (copied ∙ sym (bytes-same rates))
-    ∙ ap (λ (f : Option ℕ). laid f a.from rates store) (sym given.is)
+    ∙ ap (λ (f : Option ℕ). laid f a.piece.from rates store) (sym given.is)

@@ -1,58 +1,23 @@
--- `putting::put_run` meets its contract.
-use Prim.Native.Nat.{◌≤◌}
-use mathlib.Core.Path.{◌≡◌, sym, ap, ◌∙◌}
+-- `putting::put_run` meets its contract: the search finds this too, but takes long to give up on a wrong second month.
+use mathlib.Core.Path.{◌≡◌, sym, ap, ap₂, ◌∙◌}
 use mathlib.Core.Bool.{true}
-use native.Mathlib.Omega.{arith}
 use lib.ListN.{length}
-use borrow.Author.Tests.{not-true, not-false}
-use Rattle.rules.specs.Calendar.{month_count}
+use Rattle.std.proofs.Common.{rules}
 use Rattle.rules.specs.Store.{store_length}
-use Rattle.calendar.proofs.Laws.{slot-month-most}
-use Rattle.schedule.specs.Stored.{Stored, can_put}
+use Rattle.schedule.specs.Stored.{Stored, Piece, can_put, put_piece}
 use Rattle.schedule.specs.Rates.{stored_of}
-use Rattle.schedule.proofs.PutLaws.{run-not, run_is, can-long}
+use Rattle.schedule.proofs.PutLaws.{run_is, can_count}
 use Rattle.schedule.proofs.putting.put_run.Goals as goal
 
-pub returns-then-not-can_put : goal.returns-then-not-can_put
-unfolding can_put
-returns-then-not-can_put c =
-    let entry : Stored = stored_of c.args.pool c.args.store.now in
-    let cannot = sym c.can_put.ensures ∙ not-true c.can_put.result c.if-not-can_put.true-raw in
-    let r = run-not c.args.floor c.args.slot c.args.rates.now entry cannot in
-    (sym (ap (λ (x : Stored). x.pool) r), sym (ap (λ (x : Stored). x.store) r))
-
-pub put_month-first-requires : goal.put_month-first-requires
-unfolding can_put
-put_month-first-requires c =
-    let entry : Stored = stored_of c.args.pool c.args.store.now in
-    let can : can_put c.args.slot c.args.rates.now entry ≡ true = sym c.can_put.ensures ∙ not-false c.can_put.result c.if-not-can_put.false-raw in
-    let long : length c.args.store.now ≡ store_length = let a = c.args in can-long a.floor a.slot a.rates.now entry can in
-    let month : c.month_of_slot-month.result ≤ month_count = omega (arith, c.month_of_slot-month.ensures, slot-month-most c.args.slot) in
-    (long, omega (arith, month))
-
-pub overflow_add-month : goal.overflow_add-month
-overflow_add-month c =
-    let month : c.month_of_slot-month.result ≤ month_count = omega (arith, c.month_of_slot-month.ensures, slot-month-most c.args.slot) in
-    omega (arith, month)
-
-pub put_month-requires : goal.put_month-requires
-unfolding can_put
-put_month-requires c =
-    let entry : Stored = stored_of c.args.pool c.args.store.now in
-    let can : can_put c.args.slot c.args.rates.now entry ≡ true = sym c.can_put.ensures ∙ not-false c.can_put.result c.if-not-can_put.false-raw in
-    let long : length c.args.store.now ≡ store_length = let a = c.args in can-long a.floor a.slot a.rates.now entry can in
-    let month : c.month_of_slot-month.result ≤ month_count = omega (arith, c.month_of_slot-month.ensures, slot-month-most c.args.slot) in
-    (c.put_month-first.auto.store ∙ long, omega (arith, month))
-
 pub returns : goal.returns
-unfolding can_put
 returns c =
-    let entry : Stored = stored_of c.args.pool c.args.store.now in
-    let can : can_put c.args.slot c.args.rates.now entry ≡ true = sym c.can_put.ensures ∙ not-false c.can_put.result c.if-not-can_put.false-raw in
     let a = c.args in
-    let n = c.month_of_slot-month in
-    let p = c.put_month in
-    let after = stored_of p.result p.new.store in
-    let run = run_is a.floor a.slot a.rates.now entry n.result _ after n.ensures can in
-    let r = run c.put_month-first.ensures p.ensures in
+    let entry = stored_of a.pool a.store.now in
+    let long : length a.store.now ≡ store_length = search rules in
+    let same : c.in-Some.store.now ≡ a.store.now = search rules in
+    let can : can_put a.slot a.rates.now entry ≡ true = sym (can_count a.floor a.slot a.rates.now entry long) ∙ search rules in
+    let first = stored_of c.put_piece-first.result c.put_piece-first.new.store in
+    let e = c.put_piece-first.ensures ∙ ap₂ (put_piece a.floor) c.piece_in.ensures (ap (stored_of a.pool) same) in
+    let f = c.put_piece.ensures ∙ ap (λ (q : Piece). put_piece a.floor q first) c.piece_in-2.ensures in
+    let r = run_is a.floor a.slot a.rates.now entry c.month_of_slot-month.result first _ c.month_of_slot-month.ensures can e f in
     (ap (λ (x : Stored). x.pool) r, ap (λ (x : Stored). x.store) r)

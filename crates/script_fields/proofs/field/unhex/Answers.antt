@@ -2,17 +2,11 @@
 use mathlib.Core.Path.{◌≡◌, sym, ◌∙◌}
 use mathlib.Core.Bool.{true}
 use native.Mathlib.Omega.{arith}
-use borrow.Author.Tests.{not-true, not-false}
+use borrow.Author.Tests.{not-false}
 use Rattle.script_fields.specs.Hex.{all_hex, hex_bytes}
 use Rattle.script_fields.proofs.HexLaws.{hex-length}
-use Rattle.script_fields.proofs.FieldLaws.{says_none, says-long, says-put, hex-none, hex-some}
+use Rattle.script_fields.proofs.FieldLaws.{says-long, says-put, hex-some}
 use Rattle.script_fields.proofs.field.unhex.Goals as goal
-
-pub returns-then-not-is_hex : goal.returns-then-not-is_hex
-returns-then-not-is_hex c =
-    let a = c.args in
-    let both = says_none a.out.now (hex-none a.digits.now (sym c.is_hex.ensures ∙ not-true _ c.if-not-is_hex.true-raw)) in
-    record { answer = both.0; buffer = both.1 }
 
 pub returns-then-out-count : goal.returns-then-out-count
 returns-then-out-count c =
@@ -21,11 +15,6 @@ returns-then-out-count c =
     let s = a.digits.now in
     let both = says-long a.out.now (hex_bytes s) (hex-some s digits-held) (omega (arith, hex-length s)) in
     record { answer = both.0; buffer = both.1 }
-
-pub put_bytes-requires : goal.put_bytes-requires
-put_bytes-requires c =
-    let digits-held : all_hex c.args.digits.now ≡ true = sym c.is_hex.ensures ∙ not-false _ c.if-not-is_hex.false-raw in
-    (digits-held, c.if-out-count.false)
 
 pub returns : goal.returns
 returns c =

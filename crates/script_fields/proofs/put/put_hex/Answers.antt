@@ -8,22 +8,22 @@ use Rattle.script_fields.proofs.HexLaws.{text-length}
 use Rattle.script_fields.proofs.PutLaws.{no_room, has_room}
 use Rattle.script_fields.proofs.put.put_hex.Goals as goal
 
-pub returns-then-out-at : goal.returns-then-out-at
-returns-then-out-at c =
-    let a = c.args in
-    let both = no_room a.out.now a.at (hex_text a.bytes.now) (omega arith) in
-    record { place = both.0; buffer = both.1 }
+pub returns-in_err-checked_sub : goal.returns-in_err-checked_sub
+returns-in_err-checked_sub c =
+    let both = no_room c.args.out.now c.args.at (hex_text c.args.bytes.now) (omega (arith, c.in_err-checked_sub.ensures)) in
+    record { place = c.from_residual.ensures ∙ both.0; buffer = both.1 }
 
-pub returns-then-out-at-2 : goal.returns-then-out-at-2
-returns-then-out-at-2 c =
-    let a = c.args in
-    let both = no_room a.out.now a.at (hex_text a.bytes.now) (omega (arith, text-length a.bytes.now)) in
+pub returns-then-branch-bytes : goal.returns-then-branch-bytes
+returns-then-branch-bytes c =
+    let at = c.in_ok-checked_sub.ensures in
+    let both = no_room c.args.out.now c.args.at (hex_text c.args.bytes.now) (omega (arith, text-length c.args.bytes.now)) in
     record { place = both.0; buffer = both.1 }
 
 pub returns : goal.returns
 returns c =
-    let a = c.args in
-    let long = text-length a.bytes.now in
-    let all = ap (λ (k : ℕ). paste a.out.now a.at (hex_text a.bytes.now) k) (sym long) in
-    let both = has_room a.out.now a.at (hex_text a.bytes.now) (omega arith) (c.copy_hex.ensures ∙ all) (omega arith) in
+    let text = hex_text c.args.bytes.now in
+    let at = c.in_ok-checked_sub.ensures in
+    let long = text-length c.args.bytes.now in
+    let all = ap (λ (k : ℕ). paste c.args.out.now c.args.at text k) (sym long) in
+    let both = has_room c.args.out.now c.args.at text (omega arith) (c.copy_hex.ensures ∙ all) (omega arith) in
     record { place = both.0; buffer = both.1 }

@@ -17,4 +17,7 @@ pub returns : goal.returns
 returns c =
     let a = c.args in
     let text = line-text _ (numeral a.n) c.decimal-line.ensures in
-    record { place = c.put_text.ensures.place ∙ ap (place_after a.out.now a.at) text; buffer = c.put_text.ensures.buffer ∙ ap (buffer_after a.out.now a.at) text }
+    record {
+      place = c.put_text.ensures.place ∙ ap (place_after a.out.now a.at) text;
+      buffer = c.put_text.ensures.buffer ∙ ap (buffer_after a.out.now a.at) text;
+    }

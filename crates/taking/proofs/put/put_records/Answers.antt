@@ -1,63 +1,40 @@
-use Prim.Native.Nat.{suc, ◌+◌, ◌-◌, ◌≤◌}
-use mathlib.Core.Path.{◌≡◌, ◌∙◌, sym}
+use mathlib.Core.Path.{◌∙◌, refl, sym, ap}
 use native.Mathlib.Omega.{arith}
-use lib.ListN.{length}
+use Rattle.form.specs.Walk.{records_left}
+use Rattle.form.proofs.Turns.{begins-records}
 use Rattle.schedule.specs.Rates.{stored_of}
-use Rattle.rules.specs.Body.{rates_of, size_of}
-use Rattle.form.specs.Walk.{Whole}
-use Rattle.form.proofs.Walk.{within, rates-here, size-here}
-use Rattle.taking.proofs.RecordLaws.{whole_here, in-time, next-following, put_next, put-end}
+use Rattle.taking.proofs.RecordLaws.{in-time, next-run, put_next, put-end}
 use Rattle.taking.proofs.put.put_records.Goals as goal
-use Rattle.taking.proofs.put.put_records.Goals.{After-rate_count-n, After-tail_digits}
 
--- what is known of the record at the front: it is one of those that are left
-one : (c : After-rate_count-n) → c.args.count - c.loop.counter ≡ suc (c.args.count - (c.loop.counter + 1))
-one c = omega (arith, c.loop-test.true)
-
-stood : (c : After-rate_count-n) → Whole c.args.format c.loop.t.now
-stood c = whole_here _ _ _ _ _ c.loop.invariant.0 (one c)
-
-rates : (c : After-rate_count-n) → c.rate_count-n.result ≡ rates_of c.loop.t.now
-rates c = rates-here _ _ c.rate_count-n.ensures.exact (stood c)
-
--- and it ends within what is left
-size : (c : After-tail_digits) → 53 + c.rate_count-n.result + c.tail_digits.result ≡ size_of c.args.format c.loop.t.now
-size c =
-    let e = (goal.at.slice_bounds-t-count c).After-rate_count-n in
-    size-here _ _ c.rate_count-n.ensures.exact c.tail_digits.ensures.exact (stood e)
-
-inside : (c : After-tail_digits) → 53 + c.rate_count-n.result + c.tail_digits.result ≤ length c.loop.t.now
-inside c =
-    let e = (goal.at.slice_bounds-t-count c).After-rate_count-n in
-    within _ _ (stood e) (size c)
-
-pub slice_bounds-put_run-end : goal.slice_bounds-put_run-end
-slice_bounds-put_run-end c =
-    let e = (goal.at.slice_bounds-put_run-end c).After-rate_count-n in
-    omega (arith, rates e, (stood e).room)
+pub loop-parts-init : goal.loop-parts-init
+loop-parts-init c =
+    let walk = c.new-parts-items in
+    let begins =
+    ap records_left c.into_iter-parts-iterator.ensures.into_iter_gives
+    ∙ begins-records walk.result walk.ensures.format walk.ensures.left walk.ensures.rest c.requires.form in
+    rw begins (tt, tt, c.requires.run, refl)
 
 pub overflow_add-slot : goal.overflow_add-slot
 overflow_add-slot c =
-    let e = (goal.at.overflow_add-slot c).After-rate_count-n in
-    omega (arith, rates e, in-time _ _ _ _ _ c.loop.invariant.0 (one e))
+    let l = c.loop-parts in
+    omega (arith, in-time l.parts-iterator c.next.new.self c.in-Some.parts c.in-Some.ensures.steps l.slot l.invariant.2)
 
-pub slice_bounds-t-count : goal.slice_bounds-t-count
-slice_bounds-t-count c = inside c
-
-pub slice_bounds-t-start : goal.slice_bounds-t-start
-slice_bounds-t-start c = inside c
-
-pub loop-preserved : goal.loop-preserved
-loop-preserved c =
-    let e = (goal.at.loop-preserved c).After-rate_count-n in
-    let s = (goal.at.loop-preserved c).After-tail_digits in
-    let l = c.loop in
-    let p = c.put_run-pool in
+pub loop-parts-preserved : goal.loop-parts-preserved
+loop-parts-preserved c =
+    let l = c.loop-parts in
+    let w = l.parts-iterator in
+    let t = c.next.new.self in
+    let p = c.in-Some.parts in
+    let put = c.put_run-pool in
     let held = stored_of l.pool l.store in
-    let put = stored_of p.result p.new.store in (
-      next-following _ _ _ _ _ l.invariant.0 (one e) _ _ (rates e) (size s),
-      l.invariant.1 ∙ put_next _ _ _ _ _ l.invariant.0 (one e) _ _ _ held put (rates e) (size s) p.ensures.0 p.ensures.1,
+    let turn = c.in-Some.ensures.steps in (
+      tt,
+      tt,
+      next-run w t p turn l.slot l.invariant.2,
+      l.invariant.3 ∙ put_next w t p turn l.slot l.invariant.2 c.args.floor held (stored_of put.result put.new.store) put.ensures,
     )
 
 pub returns : goal.returns
-returns c = sym (c.loop.invariant.1 ∙ put-end _ _ _ _ _ (omega (arith, c.loop-test.false)))
+returns c =
+    let l = c.loop-parts in
+    sym (l.invariant.3 ∙ put-end l.parts-iterator c.next.new.self c.args.floor _ c.in-None.ensures.steps)

@@ -4,4 +4,4 @@ use Rattle.writer.proofs.Months.{Going}
 use Rattle.writer.proofs.record.put_months.Given as goal
 
 abbrev pub invariant-loop-month : goal.invariant-loop-month
-invariant-loop-month l = Going l.initial.out l.at (given l.fields) l.first l.end l.out l.month l.from l.place
+invariant-loop-month l = Going l.initial.out l.at (given l.fields) l.fn.months.start l.fn.months.end l.out l.month l.from l.place
