@@ -112,6 +112,6 @@ module _ (plant name body : List ℕ) (f : File) (read : take_file plant name bo
 
         go : (k : Format) → f.name.format ≡ k → take_summary t k (summary_of f) q ≡ take_by t k f.name (records_in f.body) q
         go F201 k = ap (λ (d : ℕ). take_year d q) (sym (segment-digit f.name.segment segment))
-        go F202 k = ap noted k
+        go F202 k = refl
         go F203 k = ap noted k
-        go F301 k = ap noted k
+        go F301 k = refl

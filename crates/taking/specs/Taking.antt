@@ -18,16 +18,17 @@ pub record Following (f : Format) (k slot : ℕ) (t : List ℕ) : Type 0 where
   pub form : shaped f k t ≡ true
   pub run : RunFrom slot (records_from f k t)
 
--- what a file brings to the requests at that clock, by its summary: '203: .. its flag', '201: h becomes the segment's last digit', '202: nothing more'
+-- 'if its flag differs from w, w becomes it, k = f = 0; u becomes the next access': what a 203 brings to the requests at that clock
 abbrev pub take_noted : ℕ → Option Update → RequestValues → RequestValues
 take_noted clock None q = q
 take_noted clock (Some u) q = take_update clock u.flag u.next_access q
 
+-- and any file, by its summary: '201: h becomes the segment's last digit', '202: nothing more'
 abbrev pub take_summary : ℕ → Format → Summary → RequestValues → RequestValues
 take_summary clock F201 x q = take_year (x.segment % 10) q
-take_summary clock F202 x q = take_noted clock x.update q
+take_summary clock F202 x q = q
 take_summary clock F203 x q = take_noted clock x.update q
-take_summary clock F301 x q = take_noted clock x.update q
+take_summary clock F301 x q = q
 
 -- the unit with this pool and these requests, and the file accepted
 abbrev pub filed : Unit → Pool → Requests → Done

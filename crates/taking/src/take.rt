@@ -20,6 +20,9 @@ fn take_requests(clock: Option<u32>, old: Requests, summary: Summary) -> Request
     if summary.format == Format::F201 {
         return old.take_year((summary.segment % 10) as u8);
     }
+    if summary.format != Format::F203 {
+        return old;
+    }
     let Some(update) = summary.update else {
         return old;
     };
