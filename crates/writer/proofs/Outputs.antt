@@ -1,17 +1,16 @@
 -- Laws of the output: the body of a plan's records, its length, and where it stands in the buffer.
-use Prim.Native.Nat.{ℕ, ◌+◌, ◌-◌, ◌*◌, ◌≤◌}
+use Prim.Native.Nat.{ℕ, ◌+◌, ◌-◌, ◌*◌}
 use mathlib.Core.Path.{◌≡◌, ◌∙◌, refl, ap}
 use mathlib.Core.List.{List, ◌++◌, append-nil}
 use native.Mathlib.Omega.{arith}
-use lib.ListN.{length, drop, length-append}
-use borrow.Author.Tests.{le-leb}
+use lib.ListN.{length, length-append}
 use Rattle.rules.specs.Digits.{decimal}
 use Rattle.rules.specs.Calendar.{first_slot}
 use Rattle.rules.specs.Body.{encode_body, encode_record, encode_records}
 use Rattle.rules.specs.Writer.{Fields, update_record}
 use Rattle.laws.proofs.Bytes.{length-decimal}
 use Rattle.digits.specs.Placed.{placed}
-use Rattle.digits.proofs.Placing.{placed-next, with-room}
+use Rattle.digits.proofs.Placing.{placed-next}
 use Rattle.plan.specs.Fields.{month_fields}
 use Rattle.writer.specs.Bodies.{months_of, months_body, update_body}
 use Rattle.plan.specs.Given.{MonthsGiven, UpdateGiven}
@@ -58,10 +57,3 @@ months_put l w k first =
 pub update_put : (l : List ℕ) (w : Fields)
     → placed (placed l 0 (decimal 6 1)) 6 (encode_record (update_record w)) ≡ placed l 0 (update_body w)
 update_put l w = count-placed l (encode_record (update_record w)) 1 ∙ ap (placed l 0) (update-body w)
-
--- a body that fits stands at the front of the buffer
-pub placed_front : (l b : List ℕ) → length b ≤ length l → placed l 0 b ≡ b ++ drop (length b) l
-placed_front l b h =
-    let fits = le-leb (length b) (length l) h in
-    let both = with-room l b refl h refl in
-    rw fits at both.1

@@ -31,7 +31,7 @@ fn write_months(fields: Fields, months: Range<u16>, out: &mut [u8]) -> Result<us
 }
 
 // The body of an update, or cause 15.
-#[tactic(auto, using(crate::proofs::Outputs::update_long, crate::proofs::Outputs::update_put, crate::proofs::Outputs::placed_front))]
+#[tactic(auto, using(crate::proofs::Outputs::update_long, crate::proofs::Outputs::update_put, digits::proofs::Placing::placed_first))]
 fn write_update(fields: Fields, out: &mut [u8]) -> Result<usize, Cause>
     requires { UpdateGiven (given fields) }
     ensures answer { result ≡ written_of (fitting (length out.old) (update_body (given fields.entry))) }

@@ -2,7 +2,8 @@
 use Prim.Native.Nat.{◌-◌}
 use native.Mathlib.Omega.{arith}
 use Rattle.plan.specs.Fields.{given}
-use Rattle.writer.proofs.Outputs.{months_long, months_put, placed_front}
+use Rattle.digits.proofs.Placing.{placed_first}
+use Rattle.writer.proofs.Outputs.{months_long, months_put}
 use Rattle.writer.proofs.write_months.Goals as goal
 
 pub returns-then-out-length-clause-answer : goal.returns-then-out-length-clause-answer
@@ -18,4 +19,4 @@ pub returns-clause-buffer : goal.returns-clause-buffer
 returns-clause-buffer c =
     let w = given c.args.fields in
     let m = c.args.months in
-    grind (arith, months_long w _ _ c.requires, months_put c.args.out.now w (m.end - m.start) m.start, placed_front)
+    grind (arith, months_long w _ _ c.requires, months_put c.args.out.now w (m.end - m.start) m.start, placed_first)
