@@ -55,9 +55,7 @@ fn lay_piece(block: Option<usize>, piece: Piece, store: &mut Store)
     ensures { store.new ≡ laid block piece.entry.from piece.entry.rates.now store.old }
 {
     if let Some(b) = block {
-        let at = b * BLOCK_LENGTH + piece.from;
-        let end = at + piece.rates.len();
-        store[at..end].copy_from_slice(piece.rates);
+        digits::put(store, b * BLOCK_LENGTH + piece.from, piece.rates);
     }
 }
 
