@@ -25,7 +25,7 @@ use c_bodies::RecordPlaces;
 use c_structs::{Handed, HeldSettings, HeldUnit};
 use plan::Fields;
 use plant::GivenSettings;
-use rules::{Cause, Format, Kind};
+use rules::{Cause, Kind};
 use unit::Unit;
 
 // The bytes of an error file before its text.
@@ -165,8 +165,6 @@ pub fn jag_copy_rates(format: u32, body: &[u8], out: &mut [u8]) -> WrittenBytes
     WrittenBytes::from(c_bodies::copied(format, body, out))
 }
 
-// The number of a format becomes the format that it is one of, or none: numbers that are no format's all give the same.
-#[tactic(auto, using(plan::proofs::Numbers::number_same))]
 pub fn jag_write_body(
     format: u32,
     plant: &[u8],
@@ -181,7 +179,7 @@ pub fn jag_write_body(
     ensures buffer { out.new ≡ buffer_after (write_body (fields_of format plant.now schedule.now start.now next.now rates.now flag) (length out.old)) out.old }
 {
     let fields = Fields {
-        format: Format::try_from(format).ok(),
+        format,
         plant,
         schedule,
         start,

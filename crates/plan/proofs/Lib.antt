@@ -1,2 +1,1 @@
 pub mod Plans  -- the dates as the code tests them, what a plan says of the fields, its output
-pub mod Numbers  -- all numbers that are no format's have one output

@@ -12,10 +12,11 @@ use rules::{Cause, Format, HIGHEST_RATE, MONTH_COUNT};
 // Cause 6: 'writer's flag above 9'.
 const HIGHEST_FLAG: u32 = 9;
 
-// What a body is written from (01, Beside the unit): as the caller gives it, not looked at yet. The format is none where the caller's is no format.
+// What a body is written from (01, Beside the unit): as the caller gives it, not looked at yet. Its format is a number, any that a caller has: an
+// Option of a format would ask of callers that they look at it first.
 #[derive(Clone, Copy)]
 pub struct Fields<'a> {
-    pub format: Option<Format>,
+    pub format: u32,
     pub plant: &'a [u8],
     pub schedule: &'a [u8],
     pub start: &'a [u8],
@@ -92,13 +93,13 @@ pub fn decide(fields: Fields) -> Result<Plan, Cause>
     if !plant::is_plant_id(fields.plant) {
         return Err(Cause::PlantId);
     }
-    match fields.format {
-        Some(known @ (Format::F201 | Format::F202)) => plan_months(
+    match Format::try_from(fields.format) {
+        Ok(known @ (Format::F201 | Format::F202)) => plan_months(
             record_count(known) as u16,
             fields,
         ),
         _ if HIGHEST_FLAG < fields.flag => Err(Cause::Range),
-        Some(Format::F203) => plan_update(fields),
-        Some(Format::F301) | None => Err(Cause::Name),
+        Ok(Format::F203) => plan_update(fields),
+        Ok(Format::F301) | Err(_) => Err(Cause::Name),
     }
 }
