@@ -1,5 +1,5 @@
 -- Laws of a number's bytes as they are counted and put.
-use Rattle.std.specs.Prelude.{Option, None, Some}
+use Rattle.std.specs.Prelude.{Option, None, Some, unwrap_or}
 use Prim.Native.Nat.{ℕ, zero, suc, ◌+◌, ◌-◌, ◌/◌, ◌%◌, ◌^◌, ◌≤◌, ◌<◌}
 use mathlib.Core.Path.{◌≡◌, ◌∙◌, refl, sym, ap}
 use mathlib.Core.Bool.{Bool, true, false, cond}
@@ -28,6 +28,11 @@ count-more k n m h e = rw (next-group k n h) (ap suc e)
 counted : (s : List ℕ) (k : ℕ) → length s ≡ suc k → Some (suc k) ≡ size_of s
 counted [] k e = absurd (omega arith)
 counted (b ∷ s) k e = ap Some (sym e)
+
+-- none is a length of 0
+pub as_length : (s : List ℕ) → unwrap_or (size_of s) 0 ≡ length s
+as_length [] = refl
+as_length (b ∷ s) = refl
 
 module _ (n : ℕ) where
   pub one_byte : n < 2 ^ 7 → Some 1 ≡ size_of (groups n)

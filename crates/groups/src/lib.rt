@@ -58,7 +58,7 @@ pub fn read(s: &[u8], at: usize) -> Option<Number>
 }
 
 // How many bytes a number has; none where it has no groups.
-pub fn size(n: u64) -> Option<usize>
+pub fn checked_size(n: u64) -> Option<usize>
     ensures { result ≡ size_of (groups n) }
 {
     if n < 1 << 7 {
@@ -77,6 +77,14 @@ pub fn size(n: u64) -> Option<usize>
         return Some(5);
     }
     None
+}
+
+// The same as a length; 0 where it has no groups.
+#[tactic(auto, using(crate::proofs::Putting::as_length))]
+pub fn size(n: u64) -> usize
+    ensures { result ≡ length (groups n) }
+{
+    checked_size(n).unwrap_or(0)
 }
 
 // Puts a number that has groups where there is room for them.
@@ -102,7 +110,7 @@ pub fn put(n: u64, out: &mut [u8], at: usize) -> Option<usize>
     ensures next { result ≡ place_after (groups n) out.old at }
     ensures bytes { out.new ≡ bytes_after (groups n) out.old at }
 {
-    let length = size(n)?;
+    let length = checked_size(n)?;
     if out.len().checked_sub(at)? < length {
         return None;
     }

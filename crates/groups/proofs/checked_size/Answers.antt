@@ -1,6 +1,6 @@
--- `groups::size` meets its contract.
+-- `groups::checked_size` meets its contract.
 use Rattle.groups.proofs.Putting.{one_byte, two_bytes, three-bytes, four_bytes, five-bytes, no_bytes}
-use Rattle.groups.proofs.size.Goals as goal
+use Rattle.groups.proofs.checked_size.Goals as goal
 
 pub returns-then-n : goal.returns-then-n
 returns-then-n c = one_byte c.args.n c.if-n.true
