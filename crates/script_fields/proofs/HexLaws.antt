@@ -1,5 +1,4 @@
 -- Laws of hex digits: digits tested and read pair by pair, and bytes spelt in pairs of digits.
-use Rattle.std.specs.Prelude.{is_some}
 use Prim.Native.Nat.{ℕ, zero, suc, ◌+◌, ◌*◌, ◌/◌, ◌%◌, ◌≤◌, ◌<◌}
 use mathlib.Core.Path.{◌≡◌, ◌∙◌, refl, sym}
 use mathlib.Core.Bool.{Bool, true, ◌&&◌, false, and-true, and-false}
@@ -8,10 +7,7 @@ use native.Mathlib.Omega.{arith}
 use lib.Dec.{eqb}
 use lib.ListN.{length, get_or, drop, drop_of_length-le}
 use Rattle.std.specs.List.{list_all}
-use Rattle.std.proofs.lemmas.List.Elements.{All-get_or}
-use Rattle.std.proofs.lemmas.List.Sums.{AllPass-from_list_all}
-use Rattle.laws.proofs.Tests.{both}
-use Rattle.script_fields.specs.Hex.{nibble, value, is_hex_digit, all_hex, hex_bytes, glyph, hex_text}
+use Rattle.script_fields.specs.Hex.{value, is_hex_digit, all_hex, hex_bytes, glyph, hex_text}
 
 -- ---- the test, pair by pair and digit by digit
 
@@ -34,14 +30,6 @@ pub hex-ends : (all : Bool) (s : List ℕ) (i : ℕ) → length s ≤ i → list
 hex-ends all s i h e =
     let f : list_all is_hex_digit s ≡ all = e ∙ rw drop_of_length-le (and-true all) in
     rw (hex-pairs s, f) refl
-
--- ---- what the test says
-
-pub hex-digit : (s : List ℕ) (k : ℕ) → all_hex s ≡ true → k < length s → is_some (nibble (get_or s k 0)) ≡ true
-hex-digit s k e h =
-    let parts = both (list_all is_hex_digit s) (eqb (length s % 2) 0) (sym (hex-pairs s) ∙ e) in
-    let digits = AllPass-from_list_all is_hex_digit s parts.0 in
-    All-get_or (λ x. is_hex_digit x ≡ true) s k 0 h digits
 
 -- ---- the bytes
 

@@ -1,18 +1,16 @@
--- Laws of words: the first place of a byte and the count of spaces as the chains of `std` say them, and the rest behind a word as a part of a slice.
+-- Laws of words: the first place of a byte as `std`'s chain says it, spaces counted step by step, and the rest behind a word as a part of a slice.
 use Prim.Native.Nat.{ℕ, zero, suc, ◌+◌, ◌-◌, ◌≤◌, ◌<◌, min}
 use mathlib.Core.Path.{◌≡◌, ◌∙◌, refl, ap}
 use mathlib.Core.List.{List}
-use native.Mathlib.Numerals.{add-one, one-add}
+use native.Mathlib.Numerals.{add-one}
 use native.Mathlib.Omega.{arith}
 use borrow.Author.Tests.{eq-eqb, ne_eqb}
-use lib.Dec.{eqb}
-use lib.ListN.{length, take, drop}
-use Rattle.std.specs.List.{count_by, AllWithin, HoldsAt}
+use lib.ListN.{length, get_or, take, drop, drop_of_length-le}
+use Rattle.std.specs.List.{AllWithin, HoldsAt}
 use Rattle.std.specs.Option.{MatchOption, unwrap_or}
 use Rattle.std.proofs.Common.{Option, ◌≢◌}
 use Rattle.std.proofs.lemmas.Iterator.{index_from_first}
-use Rattle.std.proofs.lemmas.List.Recursion.{is_count_by}
-use Rattle.laws.proofs.Bytes.{drop-most, part-rest}
+use Rattle.laws.proofs.Bytes.{at_next, drop-most, part-rest}
 use Rattle.script_words.specs.Words.{place_of, space, spaces, after_word, word_at}
 
 -- ---- what the chains of `std` say
@@ -30,9 +28,20 @@ first-place b =
     (λ y s e. rw (eq-eqb y b e) refl)
     (λ y s ne. rw (ne_eqb y b ne, add-one) refl)
 
-pub spaces-counted : (x : List ℕ) → spaces x ≡ count_by (λ y. eqb y space) x
-unfolding spaces
-spaces-counted x = is_count_by spaces (λ y. eqb y space) refl (λ y s. rw one-add refl) x
+-- ---- spaces counted step by step
+
+module _ (x : List ℕ) (i n : ℕ) where
+  pub space-more : i < length x → get_or x i 0 ≡ 32 → n + spaces (drop i x) ≡ n + 1 + spaces (drop (i + 1) x)
+  unfolding spaces
+  space-more h e = rw (at_next x i h) (rw (eq-eqb (get_or x i 0) 32 e) (omega arith))
+
+  pub space-other : i < length x → (get_or x i 0 ≡ 32 → ⊥) → n + spaces (drop i x) ≡ n + spaces (drop (i + 1) x)
+  unfolding spaces
+  space-other h ne = rw (at_next x i h) (rw (ne_eqb (get_or x i 0) 32 ne) refl)
+
+  pub space-ends : length x ≤ i → n + spaces (drop i x) ≡ n
+  unfolding spaces
+  space-ends h = rw drop_of_length-le (omega arith)
 
 -- ---- a word more
 
