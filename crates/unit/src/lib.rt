@@ -105,7 +105,8 @@ impl Unit {
             & (self.command as u64 <= FULL_COMMAND * settings.minutes as u64)
     }
 
-    // What is looked at first where a store is lent, in the order of 01's table: 3, then 4.
+    // What is looked at first where a store is lent, in the order of 01's table: 3, then 4. Inlined, since a frame of its own holds a unit more.
+    #[inline(always)]
     #[tactic(auto, unfolding(crate::specs::Calls::lent_of, rules::specs::Table::first_of, schedule::specs::Stored::store_holds))]
     pub fn lent(self, store: &[u8]) -> Result<(), Cause>
         ensures { result ≡ lent_of self store.now }

@@ -16,8 +16,7 @@ impl Unit {
         if !self.sound() {
             return Err(Cause::Unsound);
         }
-        let plant = self.plant;
-        request::request(&plant.id, &plant.mac, segment, out)
+        request::request(&self.plant.id, &self.plant.mac, segment, out)
     }
 
     // Writes the request for a segment into the buffer, or refuses with cause 4, 7 or 15 and writes nothing.
