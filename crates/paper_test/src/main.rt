@@ -15,16 +15,22 @@ fn end_line(rt: &impl Print) {
     show(rt, b"\n");
 }
 
+fn show_number(rt: &impl Print, n: u32) {
+    let _ = print!(rt; "{n}");
+}
+
 fn show_refusal(rt: &impl Print, cause: Cause) {
-    let number = u32::from(cause);
-    let _ = println!(rt; "refused {number}");
+    show(rt, b"refused ");
+    show_number(rt, u32::from(cause));
+    end_line(rt);
 }
 
 // An error file's code and text.
 fn show_error(rt: &impl Print, file: &[u8]) {
     match error_file::error_code(file) {
         Ok(code) => {
-            let _ = print!(rt; "{code} ");
+            show_number(rt, code as u32);
+            show(rt, b" ");
             show(rt, error_file::error_text(file));
             end_line(rt);
         }
@@ -119,9 +125,10 @@ fn show_request(rt: &impl Print, mac: &[u8], segment: &[u8]) {
 // A name's format and segment, and why it is refused with an empty body: 9 where its ID has its check digit, else 8.
 fn show_name(rt: &impl Print, name: &[u8]) {
     if let Some(fields) = name::read_name(name) {
-        let format = u32::from(fields.format);
-        let segment = fields.segment;
-        let _ = print!(rt; "{format} {segment} ");
+        show_number(rt, u32::from(fields.format));
+        show(rt, b" ");
+        show_number(rt, fields.segment as u32);
+        show(rt, b" ");
     }
     match transfer::read(name, b"") {
         Ok(_) => end_line(rt),

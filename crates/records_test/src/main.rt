@@ -14,10 +14,12 @@ const PLANT: [u8; 26] =
 
 const SCHEDULE: [u8; 10] = *b"\x02\x06\x00\x03\x02\x07\x00\x00\x00\x01";
 
-// A line of what is as it was, or is not; a write that fails changes nothing of how the program ends.
+// A line of what is as it was, or is not; a write that fails changes nothing of how the program ends. In two writes: an output that takes no more
+// has at least what it is about.
 fn told(rt: &impl Print, what: &str, same: bool) {
     let not = if same { "" } else { "not " };
-    let _ = println!(rt; "{what}: {not}as it was");
+    let _ = print!(rt; "{what}");
+    let _ = println!(rt; ": {not}as it was");
 }
 
 // Whether `out` begins with the bytes of `body`, and they are as many as were written.
@@ -36,7 +38,7 @@ fn is_itself(format: Format, flag: u32, body: &[u8]) -> bool {
         return false;
     }
     let fields = Fields {
-        format: Some(format),
+        format: u32::from(format),
         plant: records::field_part(Field::Plant, format, body, 0),
         schedule: records::field_part(Field::Schedule, format, body, 0),
         start: records::field_part(Field::Start, format, body, 0),
@@ -110,7 +112,7 @@ fn year(rt: &impl Print) {
     let rates = [55u8; 18960];
     let mut body = [0u8; 19681];
     let fields = Fields {
-        format: Some(Format::F201),
+        format: u32::from(Format::F201),
         plant: &PLANT,
         schedule: &SCHEDULE,
         start,
