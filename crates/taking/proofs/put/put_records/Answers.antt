@@ -11,7 +11,7 @@ loop-parts-init c =
     let walk = c.new-parts-items in
     let begins =
     ap records_left c.into_iter-parts-iterator.ensures.into_iter_gives
-    ∙ begins-records walk.result walk.ensures.format walk.ensures.left walk.ensures.rest c.requires.form in
+    ∙ begins-records walk.result walk.ensures.format (omega (arith, walk.ensures.left)) walk.ensures.rest c.requires.form in
     rw begins (tt, tt, c.requires.run, refl)
 
 pub overflow_add-slot : goal.overflow_add-slot
