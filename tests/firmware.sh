@@ -35,6 +35,11 @@ build_cpp() {
     g++ -O2 -Wall -Wextra -Werror -std=c++17 -Iinclude -x c++ tests/c/firmware.c -x none target/staticlib/libjagwelu.a -o target/c/firmware_cpp
 }
 
+# What the archive asks of whoever links it, as README says it: no other name.
+asks() {
+    [ "$(nm -u target/staticlib/libjagwelu.a | sed -n 's/^ *U //p' | sort -u | paste -sd ' ')" = 'memcpy memset' ]
+}
+
 # refuses TEXT OPTION..: the compiler refuses the header with these options, and says so in these words.
 refuses() {
     local text=$1
@@ -43,10 +48,11 @@ refuses() {
 }
 
 mkdir -p target/c || exit 1
-for tool in gcc g++ valgrind python3; do
+for tool in gcc g++ nm valgrind python3; do
     expect "looking for $tool" have "$tool"
 done
 expect 'the static library' scripts/archive
+expect 'the archive asks for memcpy and memset alone' asks
 expect 'the C program builds' build_c
 expect 'the C program prints what it should' prints target/c/firmware
 expect 'the C program as C++ builds' build_cpp
